@@ -436,9 +436,21 @@ class Faults(unittest.TestCase):
         self.assertNotIn("failed", cut_small([*overlap, "CPU:0 [LOST 3 EVENTS]"]))
 
     def test_a_thread_that_was_there(self) -> None:
-        """b leaves processor 2, which hasn't switched: it had it since the trace's begin, before both cuts."""
-        lines = [*Cuts.FIRST, switch(2, 4000, "b", "S", "swapper")]
+        """b leaves processor 2, which hasn't switched: it had it since that processor's first line, before both cuts. Without such a line it
+        didn't come before them."""
+        leaves = switch(2, 4000, "b", "S", "swapper")
+        lines = [*job(0, 0, "a"), other(2, 1200), *job(1, 2000, "b"), other(0, 3200), leaves]
         self.assertEqual(self.end(lines), [f"# line 9: {self.WRITTEN}", "failed"])
+        self.assertNotIn("failed", cut_small([*Cuts.FIRST, leaves]))
+
+    def test_switches_that_are_missing(self) -> None:
+        """b came to processor 1 before the line behind which both were cut, and comes to another one. Where it came behind that line, what is
+        missing changes nothing that was written."""
+        front = [*job(0, 0, "a"), other(0, 1200), wake(1, 2000, "b")]
+        comes, elsewhere = switch(1, 2100, "swapper", "R", "b"), switch(2, 5000, "swapper", "R", "b")
+        self.assertEqual(self.end([*front, comes, other(0, 3000), other(0, 3200), elsewhere]), [f"# line 9: {self.WRITTEN}", "failed"])
+        fillers = [other(0, time) for time in (2010, 2020, 2030)]
+        self.assertNotIn("failed", cut_small([*front, *fillers, comes, elsewhere]))
 
     def test_too_much_waits_and_there_is_no_place(self) -> None:
         """a hangs on processor 1, and four jobs wait: processor 0 comes first, and tells of it. Nothing of that line is written."""

@@ -13,10 +13,10 @@ _yds_trace() {
 	--lost) words=cut ;;
 	--moved) words=parts ;;
 	--others) words=spans ;;
-	--tasks | --start | --from | --to) ;;
+	--tasks | --start | --fixed | --from | --to) ;;
 	--help | --version) ;;
 	--) ;;
-	*) words="--tasks --cpu --us --khz --start --from --to --begin --lost --moved --others --parts --strict --help --version" ;;
+	*) words="--tasks --cpu --us --khz --start --fixed --from --to --begin --lost --moved --others --parts --strict --help --version" ;;
 	esac
 	COMPREPLY=($(compgen -W "$words" -- "$word"))
 }

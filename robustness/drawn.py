@@ -3,7 +3,8 @@
 A machine runs threads by chance and writes its trace in one of five formats. What each trace is to show goes round by
 its number (SHOWN): so each thing comes as often as its places in that list say. Most of a trace is left to chance all
 the same. The trace of a number and a seed is always the same one. So is a second trace of each number (`dozing`): of
-threads that are woken as they go to sleep, come back without a wake-up, are stopped, are over, or get other names.
+threads that are woken as they go to sleep, come back without a wake-up, are stopped, are over, or get other names, of
+traces with switches that are missing, and of processors that are silent at the end.
 """
 
 import random
@@ -41,12 +42,13 @@ class Wish:
 
     def __init__(self, name: bytes, pid: int, label: str, by_number: bool) -> None:
         self.name, self.pid, self.label, self.by_number = name, pid, label, by_number
-        self.deadline, self.apart = 10 * MILLISECOND, 0
+        self.deadline, self.apart, self.period = 10 * MILLISECOND, 0, 0
 
     def text(self) -> str:
         """As `--tasks` takes it."""
         head = f"{self.pid}={self.label}" if self.by_number else escaped(self.name)
-        behind = f":{decimal_text(self.apart, 6)}" if self.apart else ""
+        apart = decimal_text(self.apart, 6) if self.apart else ""
+        behind = f":{apart}:{decimal_text(self.period, 6)}" if self.period else f":{apart}" if apart else ""
         return f"{head}:{decimal_text(self.deadline, 6)}{behind}"
 
 
@@ -698,10 +700,11 @@ def backwards(it: Drawing) -> None:
     """The time goes back."""
     usual(it)
     at = it.draw.randrange(1, len(it.lines))
-    if it.draw.random() < 0.5:
+    if it.draw.random() < 0.75:
         it.replace(at, rb"(?<= )[0-9]+\.[0-9]+(?=: )", b"99.999999999")
     else:
-        it.lines.insert(at - 1, it.lines[-1])
+        it.time += 2 * MILLISECOND
+        it.lines.insert(at - 1, it.line(0, b"irq_handler_entry:", b"irq=1 name=x"))
 
 
 def torn_open(it: Drawing) -> None:
@@ -890,6 +893,30 @@ def with_lacks(seed: int, number: int, it: Drawing) -> None:
         it.lines.append(b"CPU:%d [LOST EVENTS]" % draw.randrange(it.processors))
 
 
+PACED = (starving, moving, sharing, missing, fronted, torn, cut_off, ended_early, small, often_woken, at_run, wrong_units)
+
+
+def with_pace(draw: random.Random, it: Drawing) -> None:
+    """Of one trace in three tasks have periods: about the distance of their begins, much less, or the deadline."""
+    if draw.random() < 0.33:
+        for wish in it.wishes:
+            times = sorted(time for name, time in it.wakes if name == wish.name)
+            mean = max(1, (times[-1] - times[0]) // (len(times) - 1)) if len(times) > 1 else MILLISECOND
+            first = times[1] - times[0] if len(times) > 1 else MILLISECOND
+            just = [first, first - wish.deadline + draw.choice([0, 1, 700, UNIT - 1])]
+            wish.period = max(1, draw.choice([mean, mean, 2 * mean, mean // 2, *just, wish.deadline, 1, MILLISECOND])) if draw.random() < 0.8 else 0
+
+
+def with_fixed(draw: random.Random, it: Drawing) -> None:
+    """Of one trace in six each processor has one speed throughout. Of some a line tells another."""
+    if draw.random() < 0.16:
+        khz = draw.choice([600_000, 1_000_000, 2_000_000])
+        it.options.pop("--start", None)
+        it.options["--fixed"] = str(khz)
+        if draw.random() < 0.8:
+            it.lines = [re.sub(rb"(cpu_frequency: state=)[0-9]+", rb"\g<1>%d" % khz, line) for line in it.lines]
+
+
 def drawn(seed: int, number: int) -> Drawn:
     """The trace of this number."""
     draw = random.Random(f"{seed} {number}")
@@ -898,6 +925,10 @@ def drawn(seed: int, number: int) -> Drawn:
     show(it)
     if show in LACKING:
         with_lacks(seed, number, it)
+    if show in PACED:
+        pace = random.Random(f"pace {seed} {number}")
+        with_pace(pace, it)
+        with_fixed(pace, it)
     trace = it.ends.join(it.lines) + (it.last_end if it.lines else b"")
     return Drawn(show.__name__, it.form, with_more(seed, number, with_parts(seed, number, it.words())), trace)
 
@@ -1018,7 +1049,7 @@ def hanging(it: Drawing) -> None:
     it.options["--from"] = it.seconds(at)
     wish = next(wish for wish in it.wishes if wish.name == name)
     wish.deadline = max(UNIT, it.draw.choice([(at - begin) // 2, (at - begin) // 2, at - begin - it.grain, at - begin, at - begin + 1]))
-    if it.draw.random() < 0.5 and at + 1 < end:
+    if it.draw.random() < 0.65 and at + 1 < end:
         it.options["--to"] = it.seconds(it.draw.choice([at + it.grain, (at + end) // 2, end - 1]))
 
 
@@ -1033,7 +1064,7 @@ def marked(it: Drawing) -> None:
 
 def renamed(it: Drawing) -> None:
     """Threads get other names, which may be those of other tasks."""
-    it.odds = {"rename": it.draw.choice([0.02, 0.1]), "race": 0.1}
+    it.odds = {"rename": it.draw.choice([0.1, 0.2]), "race": 0.1}
     it.rewoken = it.draw.random() < 0.3
     for wish in it.wishes:
         is_label = re.fullmatch(b"[!-~]{1,53}", wish.name) is not None
@@ -1055,13 +1086,127 @@ def first_elsewhere(it: Drawing) -> None:
     it.lines = [line for place, line in enumerate(it.lines) if place >= first or place not in own]
 
 
+def own_switches(it: Drawing, comes: bool) -> List[int]:
+    """The places of the switches by which a listed thread comes, or leaves."""
+    before, behind = (rb"(next_comm=|==> )", rb"( next_pid=|:1)") if comes else (rb"(prev_comm=|sched_switch: )", rb"( prev_pid=|:1)")
+    return [place for place in it.places(b"sched_switch:")
+            if any(re.search(before + re.escape(name) + behind, it.lines[place]) for name in it.listed)]
+
+
+def holes(it: Drawing) -> None:
+    """Switches by which a listed thread comes or leaves are missing, and nothing says so: one in a hundred, or more, and one at least."""
+    it.odds = it.draw.choice([{}, {}, {"race": 0.3, "second half": 0.5}, {"signal": 0.05}])
+    it.draw.choice([usual, usual, moving, sharing, often_woken, at_run])(it)
+    it.unbound()
+    kinds = it.draw.choice([[True], [False], [True, False]])
+    found = sorted({place for comes in kinds for place in own_switches(it, comes)})
+    odds = it.draw.choice([0.01, 0.01, 0.05, 0.2])
+    gone = [place for place in found if it.draw.random() < odds] or [it.draw.choice(found)] if found else []
+    it.lines = [line for place, line in enumerate(it.lines) if place not in gone]
+    if it.draw.random() < 0.6:
+        it.options["--lost"] = "cut"
+
+
+def silent(it: Drawing) -> None:
+    """The lines of a processor end before those of the others, by less than a second or by more. Perhaps a task has it then."""
+    it.processors, it.sleepy = it.draw.choice([2, 2, 3]), it.draw.choice([0.3, 0.6])
+    it.home = it.draw.choice([{}, it.home])
+    usual(it, it.draw.choice([0.1, 0.7]))
+    it.unbound()
+    quiet = it.draw.randrange(it.processors)
+    comes = [place for place in own_switches(it, True) if b"[%03d]" % quiet in it.lines[place]]
+    at = it.draw.choice(comes) + 1 if comes and it.draw.random() < 0.6 else it.draw.randrange(1, len(it.lines))
+    it.lines = it.lines[:at] + [line for line in it.lines[at:] if b"[%03d]" % quiet not in line]
+    for _ in range(it.draw.choice([1, 1, 3])):
+        it.wait([MILLISECOND, 10**9, 10**9, 10**9 + it.grain, 600 * MILLISECOND, 40 * 10**9])
+        it.write((quiet + 1) % it.processors, b"irq_handler_entry:", b"irq=1 name=x")
+    if it.draw.random() < 0.5:
+        it.options["--cpu"] = str(quiet)
+    if it.draw.random() < 0.2:
+        it.options["--to"] = it.seconds(it.time - it.draw.choice([0, 1, 100 * MILLISECOND]))
+    if it.draw.random() < 0.3:
+        it.options["--lost"] = "cut"
+
+
+def unsure(it: Drawing) -> None:
+    """The front is cut off within a job, which ends later than its deadline from the first line on that is left."""
+    usual(it, 0.1)
+    it.unbound()
+    it.options.pop("--begin", None)
+    name, begin, end = it.draw.choice([span for span in it.spans if span[2] - span[1] > 5 * UNIT] or [(it.listed[0], it.begun, it.time)])
+    behind = [place for place, line in enumerate(it.lines) if (stamp_of(line) or 0) > 100 * 10**9 + begin]
+    if behind:
+        last, it.time = it.time, begin + it.grain
+        first = it.line(0, b"irq_handler_entry:", b"irq=1 name=x")
+        it.lines, it.time = [first] + it.lines[behind[0] :], last
+        wish = next(wish for wish in it.wishes if wish.name == name)
+        wish.deadline = max(UNIT, end - begin - it.grain - it.draw.choice([1, 1, 1, UNIT, -1, 0]))
+
+
+def renamed_running(it: Drawing) -> None:
+    """A thread gets a task's name while it has a processor."""
+    list_only(it, [b"decode"])
+    it.run(30)
+    for _ in range(9):
+        it.state[b"other"] = "ready" if it.state[b"other"] == "sleeps" else it.state[b"other"]
+        it.switch(it.draw.randrange(it.processors))
+        if b"other" in it.on.values():
+            break
+        it.wait([1_000, 40_000])
+    it.called[b"other"] = b"fresh"
+    for _ in range(it.draw.choice([10, 30])):
+        it.step()
+    it.wishes.append(Wish(b"fresh", it.pid(b"other"), "fresh", it.draw.random() < 0.1))
+    it.ask()
+
+
+def torn_elsewhere(it: Drawing) -> None:
+    """A leaving is missing, and another task came to another processor since that one's switch before, and has it at its next one."""
+    it.processors, it.home, it.sleepy = it.draw.choice([2, 2, 3]), {}, 0.3
+    list_only(it, it.draw.sample(NAMES[:2] + [b"kworker/0:1"], it.draw.choice([2, 3])))
+    usual(it, it.draw.choice([0.0, 0.6]))
+    it.unbound()
+    switches = {place: it.lines[place][it.lines[place].index(b"[00") :][:5] for place in it.places(b"sched_switch:")}
+    comes, found = own_switches(it, True), []
+    for gone in own_switches(it, False):
+        own = [place for place, processor in switches.items() if processor == switches[gone]]
+        before, behind = [place for place in own if place < gone][-1:], [place for place in own if place > gone][:1]
+        others = [place for place in comes if before and behind and before[0] < place < behind[0] and switches[place] != switches[gone]]
+        if any(not any(place < more < behind[0] and switches[more] == switches[place] for more in switches) for place in others):
+            found.append(gone)
+    if found:
+        del it.lines[it.draw.choice(found)]
+    if it.draw.random() < 0.8:
+        it.options["--lost"] = "cut"
+
+
+def due_before(it: Drawing) -> None:
+    """By its period a job is due within the unit of time in which it begins, and ends by then."""
+    it.steps = [0, 300, 700, 3_000, 9_000, 12_000, 40_000, 900_000, 4_000_000]
+    usual(it, 0.1)
+    it.unbound()
+    it.options.pop("--begin", None)
+    it.options["--us"] = "1000"
+    for wish in it.wishes:
+        wish.deadline, wish.apart = MILLISECOND, 0
+        own = [(begin, end) for name, begin, end in it.spans if name == wish.name]
+        apart = [begin - before for (before, _), (begin, _) in zip(own, own[1:])]
+        longest = [place for place, time in enumerate(apart) if time > max([2 * MILLISECOND, *(more + MILLISECOND for more in apart[:place])])]
+        for begin, end in [own[place + 1] for place in longest if own[place + 1][1] - own[place + 1][0] < MILLISECOND][:1]:
+            most = apart[own.index((begin, end)) - 1] - MILLISECOND
+            wish.period = most + it.draw.choice([end - begin, (end - begin + MILLISECOND) // 2, MILLISECOND - 1, MILLISECOND])
+
+
 def mixed(it: Drawing) -> None:
     """All of these, with lines that are missing, a front that is cut off, or lost events."""
     it.odds = {"race": 0.2, "second half": 0.5, "signal": 0.05, "stop": 0.3, "exit": 0.02, "again": 0.3}
     it.draw.choice([anything, fronted, missing, torn, moving, sharing])(it)
 
 
-DOZES: List[Callable[[Drawing], None]] = [racing, signalled, unwoken_often, torn_asleep, stopping, exiting, hanging, marked, renamed, first_elsewhere, mixed]
+DOZES: List[Callable[[Drawing], None]] = [
+    racing, signalled, unwoken_often, torn_asleep, stopping, exiting, hanging, marked, renamed, first_elsewhere, mixed, holes, silent, unsure, renamed_running,
+    torn_elsewhere, due_before,
+]
 
 
 def dozing(seed: int, number: int) -> Drawn:
@@ -1071,6 +1216,10 @@ def dozing(seed: int, number: int) -> Drawn:
     it = Drawing(draw, show is not mixed or draw.random() < 0.5)
     it.halves = draw.choice([HALVES, HALVES[:1], HALVES[1:2], HALVES[3:], HALVES[2:]])
     show(it)
+    pace = random.Random(f"pace of dozing {seed} {number}")
+    if show is not due_before:
+        with_pace(pace, it)
+        with_fixed(pace, it)
     trace = it.ends.join(it.lines) + (it.last_end if it.lines else b"")
     return Drawn(show.__name__, it.form, with_more(seed, number, with_parts(seed, number, it.words())), trace)
 
@@ -1091,7 +1240,7 @@ def mistaken(seed: int, number: int, words: List[str]) -> List[str]:
         return rest + ["--tasks", mistake if draw.random() < 0.3 else ",".join(parts)]
     added = list(draw.choice(mistake))
     if added == ["TWICE"]:
-        return words + draw.choice([["--lost=cut"] * 2, ["--strict"] * 2, ["--parts"] * 2, ["--moved=parts"] * 2, ["--tasks", "a:1"], ["--us", "10", "--us", "10"]])
+        return words + draw.choice([["--lost=cut"] * 2, ["--strict"] * 2, ["--parts"] * 2, ["--moved=parts"] * 2, ["--fixed=5"] * 2, ["--tasks", "a:1"], ["--us", "10", "--us", "10"]])
     if added == ["NONE"]:
         return rest
     names = {word.partition("=")[0] for word in added}
@@ -1127,6 +1276,8 @@ MISTAKES: List[object] = [
     [["--start=0:1,1"], ["--start", "600000,700000"], ["--start", "0:1,"], ["--start=,"]],
     [["--start=0:1,2:1,0:1"], ["--start", "3:1,3:2"]],
     [["--start", ",".join(f"{number}:9" for number in range(1_001))]],
+    [["--fixed", "0"], ["--fixed=4294967296"], ["--fixed", "1e6"], ["--fixed", "0:1"], ["--fixed="]],
+    [["--fixed", "1000000", "--start=1000000"], ["--start", "0:1", "--fixed=9"]],
     [["--from=1.1234567890"], ["--to", "9223372036.854775808"], ["--from", "+"], ["--from=++2"], ["--to", "+2s"], ["--to=1."], ["--from=.5"]],
     [["--from=5", "--to=5"], ["--from", "2.000000001", "--to", "2"], ["--from=+5", "--to=+5"], ["--from", "+1", "--to", "+0.5"]],
     [["--begin=wake"], ["--begin", "Run"], ["--begin="]],
@@ -1137,7 +1288,7 @@ MISTAKES: List[object] = [
     [["NONE"]],
     [["--tasks", ",".join(f"t{number}:9" for number in range(1_001))]],
     "decoder", "de coder:9", ":9", "x=y:9", "4294967296=y:9", "01=y:9", "0=y:9", "y:", "y:9.1234567", "y:1,5", "y:0.000999", "y:0",
-    "y:9:", "y:9:x", "y:9:1:2", "y:9,y:10", "5=y:9,5=z:9", "=y:9", "y\\:9", "q" * 54 + ":9",
+    "y:9:", "y:9:x", "y:9:1:0", "y:9::1:2", "y:9,y:10", "5=y:9,5=z:9", "=y:9", "y\\:9", "q" * 54 + ":9",
     [["--help"]],
     [["--version"]],
 ]

@@ -231,6 +231,7 @@ SHOWN: List[Callable[[Drawing], None]] = [
     plain, moves, comes_late, loses, stands_idle, starves_nowhere, crowded, loses_alone, roams, long.was_there, loses_behind, moves, long.limited,
     comes_late, strict, long.windowed, long.hangs, loses_behind, long.faulty, starves_nowhere, long.opened, loses_alone, long.at_run, long.unwoken, moves, long.unseen,
     comes_late, long.missing, crowded, no_job, long.raced, long.came_back, long.exited, long.came_back, long.faulty, long.unwoken, long.exited, no_job,
+    long.silences, long.missing,
 ]
 
 
@@ -251,8 +252,8 @@ WANTED = [
     "a line with silent cuts alone", "a job of two processors, in time", "a job of two processors, late", "a job that has run nowhere", "a processor without a job",
     "a processor that comes behind a part", "no place", "line: part written", "line: part written, of another processor", "form behind a part",
     "line behind a part", "part document: work", "part document: no job", "part document: no job, behind a part", "part document: strict",
-    "whole: unwoken", "line: unwoken", "whole: a task unseen", "a late job in a part", "a late job without its runs", "a job left out",
-    "option --from", "option --to", "option --begin", "option --us", "option --parts", "option APART", "a whole trace in parts",
+    "line: missing", "a switch is missing, gone on", "whole: a task unseen", "a late job in a part", "a late job without its runs", "a job left out",
+    "option --from", "option --to", "option --begin", "option --us", "option --parts", "option APART", "option PERIOD", "a job due by the one before", "a processor is silent", "a whole trace in parts",
     "option --moved", "a share, in time", "a share, late", "lines out of order", "lines out of order at the end of a part",
     "line: not woken", "line: exited", "a thread that is back behind a part", "a job with which its thread was over",
     "a job that goes on behind a sleep without a wake-up", "a job that begins as its thread goes to sleep, and one half tells",
@@ -283,8 +284,10 @@ def in_parts(said: Told, parts: Parts, words: List[str]) -> Iterator[str]:
     if any(f"# part 1: jobs 1 to 0, from 0 to 0, shift 0, cpu {processor}, the last" in said.text for processor in many):
         yield "a processor without a job"
     yield from (f"option {word}" for word in words if word.startswith("--"))
-    if re.search(r":[0-9.]+:[0-9.]+(,|$)", words[1]):
+    if re.search(r":[0-9.]+:[0-9.]+(:|,|$)", words[1]):
         yield "option APART"
+    if re.search(r":[0-9.]+:[0-9.]*:[0-9.]+(,|$)", words[1]):
+        yield "option PERIOD"
 
 
 def in_jobs(said: Told) -> Iterator[str]:
@@ -394,7 +397,7 @@ def tell(counts: "Counter[str]", many: int, passed: int, failed: int) -> int:
 def counted(it: Drawn, said: Told, parts: Parts) -> Set[str]:
     """What is in a trace, and what is said of it."""
     return {f"status {said.status}", *in_parts(said, parts, it.words), *in_fault(said, parts, it.trace), *in_jobs(said),
-            *long.in_documents(said), *in_order_of_lines(it.trace, parts), *long.out_of_order(it.trace, parts)}
+            *long.in_documents(said), *in_order_of_lines(it.trace, parts), *long.out_of_order(it.trace, parts), *long.gone_on(it.trace, said)}
 
 
 def alone(seed: int, many: int) -> int:

@@ -4,15 +4,19 @@
 
 A thread is woken, runs, and sleeps, by what a kernel does and writes: it is preempted, waits for a disk, is stopped, has
 a signal pending while it goes to sleep, is woken while it goes to sleep, moves, is over, or starves. Wake-ups are
-recorded by their first half, by their second, or by both; a trace may begin late, lose events, or be asked for from a
-time on. A job is from a wake-up to the next sleep. What second.py reads of the trace is compared with the truth:
+recorded by their first half, by their second, or by both; a trace may begin late, lose events with a mark or without one
+(a coming of the thread, or a leaving), be silent of a processor at its end, or be asked for from a time on; and frames
+that are due by a period may fall behind. A job is from a wake-up to the next sleep. What second.py reads of the trace is
+compared with the truth:
 
 - hidden: a job was late by a unit of time or more, none is told late, and no comment says that anything isn't known;
 - invented: a job is told late, and no job was open so long.
 
-Two things can't be known, and are counted apart: a thread's first wake-up in the trace may end a wait within a job that
-began before it; and where wake-ups are recorded by their first half alone, one that comes while its thread goes to sleep
-may have been taken up before that, if the thread isn't seen again.
+What can't be known is counted apart: a thread's first wake-up in the trace may end a wait within a job that began before
+it; where wake-ups are recorded by their first half alone, one that comes while its thread goes to sleep may have been
+taken up before that, if the thread isn't seen again; where the thread's last leaving is missing, it seems to have its
+processor up to the end; and where a processor is silent, the thread's wake-ups and leavings are missing, too, which isn't
+told of one that was left idle.
 
 The last line is 'N passed, M failed'; the status is 1 where M isn't 0.
 """
@@ -32,8 +36,8 @@ UNIT = 10_000
 """Nanoseconds in a unit of time."""
 SLACK = 9_000
 """A wake-up's second half comes less than so long behind its first: a job that is told by it alone begins so much later."""
-UNKNOWN = ("not ended", "events lost", "a switch is missing", "its begin isn't in the trace")
-KINDS = ("whole", "starving", "front", "from", "loss")
+UNKNOWN = ("not ended", "events lost", "a switch is missing", "its begin isn't in the trace", "due before it begins")
+KINDS = ("whole", "starving", "front", "from", "loss", "coming", "leaving", "period", "silent")
 
 
 class Real(NamedTuple):
@@ -150,6 +154,28 @@ class Machine:
             self.wait(20_000, 6_000_000 if self.draw.random() < 0.2 else 900_000)
             begin = self.sleep(processor, begin, number == count - 1)
 
+    def frames(self) -> int:
+        """Frames that are due by a period: each begins when that is, or shortly behind the one before, if that fell behind. Gives the period."""
+        period = self.draw.choice((2_000_000, 5_000_000, 16_666_667))
+        first = self.now
+        for number in range(self.draw.randint(4, 12)):
+            due_from = first + number * period
+            self.now = max(self.now + self.draw.randint(20_000, 90_000), due_from)
+            self.wait(0, 3_000)
+            self.wake()
+            self.wait(2_000, 40_000)
+            processor = self.come()
+            if self.draw.random() < 0.3:
+                processor = self.stretch(processor)
+            self.wait(20_000, period * self.draw.choice((1, 1, 1, 2, 3)) // 2)
+            self.leave(processor, "S")
+            self.jobs.append(Real(due_from, self.now))
+            self.seen["behind"] += self.now > due_from + period
+            self.noise(None)
+        self.wait(50_000, 900_000)
+        self.noise(None)
+        return period
+
     def sleep(self, processor: int, begin: int, last: bool) -> int:
         """It goes to sleep, and is woken: when the next job begins."""
         if last and self.draw.random() < 0.3:
@@ -177,13 +203,15 @@ class Machine:
 
 
 class Tried(NamedTuple):
-    """A trace, the words for it, its first time, and from when to when it is asked for and shows what happens."""
+    """A trace, the words for it, its first time, from when to when it is asked for and shows what happens, and the thread's lines that are missing
+    though nothing says so."""
 
     text: bytes
     words: List[str]
     first: int
     begin: int
     end: int
+    gone: List[Line]
 
 
 def text_of(lines: List[Line], lost: Dict[int, int]) -> bytes:
@@ -196,13 +224,41 @@ def text_of(lines: List[Line], lost: Dict[int, int]) -> bytes:
     return ("\n".join(told) + "\n").encode()
 
 
-def tried(kind: str, machine: Machine, draw: random.Random) -> Tried:
+def without(lines: List[Line], mark: str, draw: random.Random) -> List[Line]:
+    """The lines but for one of the thread's switches, in which this mark stands."""
+    own = [place for place, line in enumerate(lines) if mark in line.text]
+    gone = draw.choice(own) if own else -1
+    return lines[:gone] + lines[gone + 1 :] if own else lines
+
+
+def silenced(machine: Machine, draw: random.Random) -> List[Line]:
+    """The lines, but that a processor tells nothing from one of them on, while another goes on for a while."""
+    lines = list(machine.lines)
+    if machine.processors > 1:
+        at = draw.randrange(len(lines) // 3, len(lines))
+        quiet = draw.randrange(machine.processors)
+        lines = lines[:at] + [line for line in lines[at:] if line.processor != quiet]
+        machine.wait(100_000, draw.choice((900_000, 3_000_000_000)))
+        lines.append(Line(machine.now, (quiet + 1) % machine.processors, "irq_handler_entry: irq=1 name=x"))
+    return lines
+
+
+def tried(kind: str, machine: Machine, draw: random.Random, period: int) -> Tried:
     """What is recorded, and asked for."""
     deadline = draw.choice((1, 2, 5, 16))
-    words = ["--tasks", f"{NAME}:{deadline}", "--start", "1000000", "--cpu", "0", "--us", "10", "--khz", "100000"]
+    behind = f"::{period // 10**6}.{period % 10**6:06d}" if period else ""
+    words = ["--tasks", f"{NAME}:{deadline}{behind}", "--start", "1000000", "--cpu", "0", "--us", "10", "--khz", "100000"]
     lines = list(machine.lines)
     lost: Dict[int, int] = {}
     begin: Optional[int] = None
+    if kind == "coming":
+        lines = without(lines, f"next_pid={PID} ", draw)
+    if kind == "leaving":
+        lines = without(lines, f"prev_pid={PID} ", draw)
+    if kind in ("coming", "leaving") and draw.random() < 0.5:
+        words += ["--lost", "cut"]
+    if kind == "silent":
+        lines = silenced(machine, draw)
     if kind == "front":
         lines = lines[draw.randrange(len(lines) // 2) :]
     if kind == "from":
@@ -219,13 +275,15 @@ def tried(kind: str, machine: Machine, draw: random.Random) -> Tried:
             lost = {kept.index(behind): len(gone)}
             lines = [lines[place] for place in kept]
         words += ["--lost", "cut"]
-    return Tried(text_of(lines, lost), words, lines[0].time, begin if begin is not None else lines[0].time, lines[-1].time)
+    gone = [line for line in machine.lines if NAME in line.text and line not in lines] if kind in ("coming", "leaving", "silent") else []
+    return Tried(text_of(lines, lost), words, lines[0].time, begin if begin is not None else lines[0].time, lines[-1].time, gone)
 
 
 def is_plain(document: second.Document) -> bool:
     """Whether nothing says that anything isn't known."""
     left = any(one.reason in UNKNOWN for one in document.judged)
-    return not (left or document.tally.losses or document.tally.missing or any(one.job.exited for one in document.judged))
+    lacks = document.tally.losses or document.tally.missing or document.tally.silent > 10**9
+    return not (left or lacks or any(one.job.exited for one in document.judged))
 
 
 def hidden(document: second.Document, jobs: List[Real], case: Tried, deadline: int) -> Optional[Real]:
@@ -239,13 +297,23 @@ def hidden(document: second.Document, jobs: List[Real], case: Tried, deadline: i
     return None
 
 
-def limit_of(job: Real, machine: Machine, first: int) -> str:
-    """Why it can't be known of a hidden job that it was late, if it can't: of a trace that begins at this time."""
-    if job.begin < first:
+def limit_of(job: Real, kind: str, machine: Machine, case: Tried) -> str:
+    """Why it can't be known of a hidden job that it was late, if it can't."""
+    if job.begin < case.first:
         return "a wait's end taken for a begin"
+    if kind == "silent" and case.gone:
+        return "a processor that was left idle is silent, and its lines of it"
     before = [other for other in machine.jobs if other.begin < job.begin]
     raced = bool(before) and before[-1].end > job.begin
     return "woken as it went to sleep, and not seen again" if raced and machine.halves == "first" and job == machine.jobs[-1] else ""
+
+
+def limit_of_late(kind: str, machine: Machine, case: Tried) -> str:
+    """Why it can't be known of a job that is told late that none was, if it can't."""
+    own = [line for line in machine.lines if f"_pid={PID} " in line.text]
+    if kind == "leaving" and case.gone == own[-1:]:
+        return "its last leaving is missing"
+    return "a silent processor's lines of it" if kind == "silent" and case.gone else ""
 
 
 def invented(document: second.Document, jobs: List[Real]) -> Optional[second.Judged]:
@@ -270,13 +338,16 @@ def main(words: List[str]) -> int:
         draw = random.Random(f"{options.seed} {number}")
         kind = KINDS[number % len(KINDS)]
         machine = Machine(draw)
-        machine.run(kind == "starving")
-        case = tried(kind, machine, draw)
+        period = machine.frames() if kind == "period" else 0
+        if kind != "period":
+            machine.run(kind == "starving")
+        case = tried(kind, machine, draw, period)
         asked = second.asked_by(case.words)
         counts[kind] += 1
         counts.update({f"with {what}": 1 for what in machine.seen})
         try:
             document = second.whole_document(case.text, asked)
+            document.check_jobs()
         except second.Wrong as wrong:
             counts[f"{kind}: refused ({wrong.kind})"] += 1
             continue
@@ -284,10 +355,14 @@ def main(words: List[str]) -> int:
         counts[f"{kind}: {'late' if late else 'plain' if is_plain(document) else 'as far as is known'}"] += 1
         deadline = asked.tasks[0].deadline
         lost, made = hidden(document, machine.jobs, case, deadline), invented(document, machine.jobs)
-        limit = "" if lost is None else limit_of(lost, machine, case.first)
+        limit = "" if lost is None else limit_of(lost, kind, machine, case)
         if limit:
             counts[f"can't be known: {limit}"] += 1
             lost = None
+        limit = "" if made is None else limit_of_late(kind, machine, case)
+        if limit:
+            counts[f"can't be known, told late: {limit}"] += 1
+            made = None
         if lost is not None or made is not None:
             failed += 1
             if failed <= 5:

@@ -65,6 +65,7 @@ class Drawing:
         if draw.random() < 0.5:
             self.options["--others"] = "spans"
             self.it.odds["others"] = draw.choice([0.01, 0.1])
+        self.paced = draw.random() < 0.3
 
     def some(self, least: int, most: int) -> int:
         """So many lines, or so many that are `scale` times fewer."""
@@ -92,7 +93,8 @@ class Drawing:
 
     def task_text(self, task: Task) -> str:
         """A task as `--tasks` takes it."""
-        behind = f":{task.apart / 10**6:.6f}" if task.apart else ""
+        apart = f"{task.apart / 10**6:.6f}" if task.apart else ""
+        behind = f":{apart}:{task.period / 10**6:.6f}" if self.paced else f":{apart}" if apart else ""
         return f"{task.name}:{task.deadline / 10**6:.6f}{behind}"
 
     def seconds(self, time: int) -> str:
@@ -240,7 +242,7 @@ def faulty(it: Drawing) -> None:
 
 def limited(it: Drawing) -> None:
     """A job that passes a limit of documents: its work, or its speed."""
-    khz = it.draw.choice([2_000_000_000, 1_234])
+    khz = it.draw.choice([2_000_000_000, 2_000_000_000, 1_234])
 
     def edit(lines: List[bytes]) -> None:
         at = it.draw.randrange(len(lines) // 4, len(lines))
@@ -261,6 +263,8 @@ def strict(it: Drawing) -> None:
 def missing(it: Drawing) -> None:
     """Some switches aren't there, of a thousand one or more."""
     it.it.odds["missing"] = it.draw.choice([0.001, 0.03, 0.1])
+    if it.draw.random() < 0.6:
+        it.options.pop("--lost")
 
 
 def windowed(it: Drawing) -> None:
@@ -399,10 +403,24 @@ def exited(it: Drawing) -> None:
     it.it.odds.update({"exit": it.draw.choice([0.001, 0.01]) * min(it.scale, 20), "again": it.draw.choice([0.0, 1.0])})
 
 
+def silences(it: Drawing) -> None:
+    """A processor tells one line, and nothing then, and the clock jumps there."""
+
+    def edit(lines: List[bytes]) -> None:
+        at = it.draw.randrange(len(lines) // 4, len(lines) // 2)
+        time, more = it.stamp(lines[at]), it.draw.choice([10**9 - 10**6, 2 * 10**9])
+        for place in range(at, len(lines)):
+            later = it.stamp(lines[place]) + more
+            lines[place] = re.sub(rb" [0-9]+\.[0-9]{9}: ", b" %d.%09d: " % (later // 10**9, later % 10**9), lines[place], count=1)
+        lines.insert(at, f" w-5 [005] d..2. {time // 10**9}.{time % 10**9:09d}: irq_handler_entry: irq=1 name=x".encode())
+
+    it.edits.append(edit)
+
+
 SHOWN: List[Callable[[Drawing], None]] = [
     plain, hangs, loses, windowed, calm, was_there, faulty, limited, starves, missing, at_run, ended_behind, stretched, opened, elsewhere, missing,
     loses, windowed, unwoken, unseen, faulty, limited, loses, opened, hangs, missing, strict, ended_behind, unwoken, hangs, faulty, strict, shoved, shoved,
-    visited, visited, raced, came_back, exited, came_back,
+    visited, visited, raced, came_back, exited, came_back, silences,
 ]
 
 
@@ -428,8 +446,8 @@ def drawn(seed: int, number: int, scale: int = 1) -> Drawn:
 WANTED = [
     "parts: 1", "parts: 2", "parts: 3 or more", "a part with windows open", "a part without windows open", "a last part without a job", "no place",
     "no place, known to be late", "line: part written", "form behind a part", "line behind a part", "part document: work", "part document: coarse speed",
-    "part document: strict", "whole: unwoken", "line: unwoken", "whole: a task unseen", "a late job in a part", "a late job without its runs", "a job left out",
-    "option --from", "option --to", "option --begin", "option --us", "option APART", "more than 25000 stretches", "a whole trace in parts",
+    "part document: strict", "line: missing", "a switch is missing, gone on", "whole: a task unseen", "a late job in a part", "a late job without its runs", "a job left out",
+    "option --from", "option --to", "option --begin", "option --us", "option APART", "option PERIOD", "a job due by the one before", "a processor is silent", "more than 25000 stretches", "a whole trace in parts",
     "option --moved", "option --others", "a share, in time", "a share, late", "another thread in a part", "another thread up to the end of a part",
     "more than 12500 spans", "line: not woken", "line: exited", "a thread that is back behind a part", "a job with which its thread was over",
     "a job that goes on behind a sleep without a wake-up", "a job that begins as its thread goes to sleep, and one half tells",
@@ -450,8 +468,10 @@ def in_parts(said: Told, words: List[str]) -> Iterator[str]:
     if said.status == 0 and len(heads) > 1:
         yield "a whole trace in parts"
     yield from (f"option {word}" for word in words if word.startswith("--"))
-    if re.search(r":[0-9.]+:[0-9.]+(,|$)", words[1]):
+    if re.search(r":[0-9.]+:[0-9.]+(:|,|$)", words[1]):
         yield "option APART"
+    if re.search(r":[0-9.]+:[0-9.]*:[0-9.]+(,|$)", words[1]):
+        yield "option PERIOD"
 
 
 def in_fault(said: Told) -> Iterator[str]:
@@ -490,13 +510,23 @@ def in_documents(said: Told) -> Iterator[str]:
                 yield "a job left out"
             if one.part is not None:
                 yield "a share, in time" if one.late is None else "a share, late"
+            if one.job.due_from < one.job.begin:
+                yield "a job due by the one before"
             yield from in_sleeps(one.job)
+        if document.tally.silent > 10**9:
+            yield "a processor is silent"
         if document.others:
             yield "another thread in a part"
         if len(document.others) > 12_500:
             yield "more than 12500 spans"
         if sum(len(one.job.ran) for one in document.judged) > 25_000:
             yield "more than 25000 stretches"
+
+
+def gone_on(trace: bytes, said: Told) -> Iterator[str]:
+    """Whether a switch is missing, and it went on."""
+    if any(document.tally.losses for document in said.parts) and not re.search(rb"LOST|DROPPED|buffer started", trace):
+        yield "a switch is missing, gone on"
 
 
 def out_of_order(trace: bytes, parts: Parts) -> Iterator[str]:
@@ -617,7 +647,7 @@ def main(words: List[str]) -> int:
         counts[f"shows {it.shows}"] += 1
         said, parts = told_in_parts(it.trace, asked_by(it.words))
         counts.update({f"status {said.status}", *in_parts(said, it.words), *in_fault(said), *in_documents(said), *between_parts(said), *back(said, parts),
-                       *out_of_order(it.trace, parts)})
+                       *out_of_order(it.trace, parts), *gone_on(it.trace, said)})
         faults = list(faults_of(programs, it, said, parts))
         passed, failed = passed + int(not faults), failed + int(bool(faults))
         for fault in faults:

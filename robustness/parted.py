@@ -10,9 +10,9 @@ from dataclasses import dataclass, field, replace
 from typing import Dict, List, NamedTuple, Optional, Set, Tuple
 
 from second import (
-    Asked, Document, Follower, Job, Judged, Line, MOST_PROCESSOR, MOST_TEXT, MOST_TIME, Ordered, Shown, Span, Stretch, Tally, Thread, Told, Watch, Wrong,
-    as_bytes, begun, in_order, is_asked_for, is_loss, is_missing, is_stamped, judge_jobs, line_fault, milliseconds, ordered, share_of, shown_by, unseen_task,
-    within,
+    Asked, Document, Follower, Job, Judged, Line, MOST_PROCESSOR, MOST_TEXT, MOST_TIME, Ordered, Shown, Span, Stretch, Tally, Tasks, Thread, Told, Watch,
+    Wrong, as_bytes, begun, in_order, is_asked_for, is_loss, is_missing, is_stamped, judge_jobs, line_fault, milliseconds, ordered, share_of, shown_by,
+    silence_of, unseen_task, within,
 )
 
 
@@ -54,22 +54,27 @@ class Kept:
         self.first: Optional[int] = None
         self.last = 0
         self.own: Dict[int, int] = {}
-        self.whole: Optional[int] = None
-        self.switched: Set[int] = set()
+        self.since: Dict[int, int] = {}
+        self.switches: Dict[int, Line] = {}
         self.speeds: Dict[int, int] = {}
         self.torn = False
 
     def speed(self, processor: int) -> Optional[int]:
         """A processor's speed."""
-        return self.speeds.get(processor, None if self.torn else self.asked.starts.get(processor, self.asked.start))
+        before_all = self.asked.starts.get(processor, self.asked.start)
+        return self.speeds.get(processor, self.asked.fixed if self.torn or before_all is None else before_all)
 
-    def has_switched(self, processor: int) -> bool:
-        """Whether a processor has switched since the last loss."""
-        return processor in self.switched
+    def switched(self, processor: int) -> Optional[int]:
+        """When a processor switched last, since the last loss."""
+        return self.switches[processor].time if processor in self.switches else None
 
-    def whole_since(self, other: int) -> int:
-        """The time of the first line behind the last loss."""
-        return other if self.whole is None else self.whole
+    def came_last(self, processor: int) -> Optional[Thread]:
+        """Who came to it then."""
+        return self.switches[processor].threads[1] if processor in self.switches else None
+
+    def lines_since(self, processor: int, other: int) -> int:
+        """The time of a processor's first line behind the last loss."""
+        return self.since.get(processor, other)
 
     def lost_since(self, line: Line) -> int:
         """Since when events were lost, as a line behind them tells."""
@@ -83,11 +88,11 @@ class Kept:
             self.last = line.time
             self.own[line.processor] = line.time
         if is_loss(line):
-            self.switched, self.speeds, self.whole, self.torn = set(), {}, None, True
+            self.switches, self.speeds, self.since, self.torn = {}, {}, {}, True
         elif is_stamped(line):
-            self.whole = line.time if self.whole is None else self.whole
+            self.since.setdefault(line.processor, line.time)
         if line.kind == "switch":
-            self.switched.add(line.processor)
+            self.switches[line.processor] = line
         elif line.kind == "speed":
             self.speeds[line.of] = line.khz
 
@@ -128,7 +133,6 @@ class Parts:
     in_text: int = 0
     greatest: int = 0
     is_torn: bool = False
-    is_woken: bool = False
     is_back: bool = False
     text: str = ""
     written: List[Document] = field(default_factory=list)
@@ -138,11 +142,11 @@ class Parts:
     def __post_init__(self) -> None:
         self.lines, self.counted = Kept(self.asked), Kept(self.asked)
         self.tally = Tally()
-        self.came: Dict[int, Thread] = {}
         self.before: Optional[int] = None
         self.threads: Dict[int, int] = {}
         self.seen: Set[int] = set()
-        self.followers = [Follower(self.asked, number) for number in range(len(self.asked.tasks))]
+        self.tasks = Tasks(self.asked)
+        self.followers = self.tasks.followers
         self.watch = Watch(self.asked)
         self.idle = Cut()
         self.cuts = {self.asked.processor: self.idle}
@@ -184,7 +188,7 @@ class Parts:
             return line if self.lines.lost_since(line) < end else None
         if line.time <= end:
             return line
-        if line.kind == "switch" and not self.counted.has_switched(line.processor):
+        if line.kind == "switch" and self.counted.switched(line.processor) is None:
             return Line("switch", line.processor, end, (line.threads[0], line.threads[0]), "GoesOn")
         return None
 
@@ -201,18 +205,15 @@ class Parts:
             return "exited"
         return "renamed" if before is None and thread.pid in self.threads.values() else None
 
-    def is_unwoken(self, thread: Thread) -> bool:
-        """Whether a thread that comes now left to sleep twice in its job, and no wake-up ended either sleep."""
-        task = self.asked.task_of(thread)
-        return task is not None and not self.asked.cut and not self.asked.at_run and self.followers[task].slept_before()
-
     def threads_fault(self, line: Line) -> Optional[str]:
         """What the threads of an event are refused for."""
-        if self.asked.end is not None and line.time > self.asked.end:
-            is_first = line.kind == "switch" and not self.counted.has_switched(line.processor)
+        if not self.asked.is_up_to(line.time):
+            is_first = line.kind == "switch" and self.counted.switched(line.processor) is None
             return self.thread_fault(line.threads[0]) if is_first else None
         if line.time < self.lines.last:
             return "back"
+        if line.kind == "speed" and self.asked.fixed is not None and self.asked.fixed != line.khz:
+            return "speed"
         found = [self.thread_fault(thread) for thread in line.threads[:1]]
         if line.kind == "switch":
             first, second = line.threads
@@ -220,7 +221,7 @@ class Parts:
             found.append("state" if mine is not None and line.state == "Unknown" else None)
             found.append(self.thread_fault(second))
             found.append("threads" if mine is not None and self.asked.task_of(second) == mine and first.pid != second.pid else None)
-            found.append("not woken" if self.is_unwoken(second) else None)
+            found.append("not woken" if self.tasks.is_unwoken(second) else None)
         return next((fault for fault in found if fault), None)
 
     def is_lost_within(self, line: Line) -> bool:
@@ -236,34 +237,48 @@ class Parts:
         if line.time > MOST_TIME:
             return "time"
         fault = self.threads_fault(line)
-        if fault is not None:
+        if fault is not None or self.asked.cut:
             return fault
-        is_behind = self.asked.begin is None or self.asked.begin < line.time
-        return "lost" if not self.asked.cut and is_behind and (self.is_lost_within(line) or self.is_torn) else None
+        if self.is_behind_from(line) and (self.is_lost_within(line) or self.is_torn):
+            return "lost"
+        return "missing" if self.is_behind_from(line) and self.missing(line) is not None else None
+
+    def is_behind_from(self, line: Line) -> bool:
+        """Whether an event is behind `from`."""
+        return self.asked.begin is None or self.asked.begin < line.time
+
+    def missing(self, line: Line) -> Optional[int]:
+        """Since when switches of tasks are missing before it, if some are and it counts."""
+        return self.tasks.missing(line, self.counted) if self.asked.is_up_to(line.time) else None
 
     def part_cause(self, line: Line) -> Optional[str]:
         """It tells of a loss, or of a thread that was there, since a time before a part that was written, or that a job that began before
-        hasn't ended, of any processor. A cut at which nothing is written counts, too."""
+        hasn't ended, of any processor; or switches are missing before it since such a time. A cut at which nothing is written counts, too."""
         cuts = self.watched()
-        if is_loss(line) and any(self.lines.lost_since(line) < cut.decided for cut in cuts):
+        since = self.lines.lost_since(line) if is_loss(line) else self.missing(line)
+        if since is not None and any(since < cut.decided for cut in cuts):
             return "part written"
         self.is_back = bool(line.threads) and any(self.comes_back(line) < cut.boundary for cut in cuts)
         if self.is_back:
             return "part written"
-        if line.kind != "switch" or self.asked.task_of(line.threads[0]) is None or self.counted.has_switched(line.processor):
+        if line.kind != "switch" or self.asked.task_of(line.threads[0]) is None or self.counted.switched(line.processor) is not None:
             return None
-        return "part written" if any(self.counted.whole_since(line.time) < cut.boundary for cut in cuts) else None
+        return "part written" if any(self.counted.lines_since(line.processor, line.time) < cut.boundary for cut in cuts) else None
 
     def comes_back(self, line: Line) -> int:
-        """When the last job began of a thread that comes behind that job's end, without a wake-up since, or of which a wake-up is done that was
-        started before that end; of any other no time is so late."""
-        task = self.asked.task_of(line.threads[-1])
-        if task is None or line.starts or self.asked.at_run or (self.asked.end is not None and line.time > self.asked.end):
+        """When the last job began of a thread that comes behind that job's end, without a wake-up since, or that leaves, or of which a wake-up is
+        done, where one was started before that end; the earlier of two, and else no time is so late."""
+        if line.starts or self.asked.at_run or not self.asked.is_up_to(line.time):
             return MOST_TIME
-        follower = self.followers[task]
-        if line.kind == "wake" and follower.started is None:
+        return min(self.back_since(thread, line.kind == "switch" and at == 1) for at, thread in enumerate(line.threads))
+
+    def back_since(self, thread: Thread, comes: bool) -> int:
+        """The same of one thread: whether it comes, or a wake-up was started before."""
+        task = self.asked.task_of(thread)
+        follower = None if task is None else self.followers[task]
+        if follower is None or not follower.seen or follower.state() != "ended" or not (comes or follower.started is not None):
             return MOST_TIME
-        return follower.jobs[-1].begin if follower.seen and follower.state() == "ended" else MOST_TIME
+        return follower.jobs[-1].begin
 
     def take(self, line: Line, in_text: int) -> None:
         """The next line, which has this number in the text."""
@@ -276,7 +291,6 @@ class Parts:
         self.is_torn = not is_stamped(line) and (self.is_torn or self.is_lost_within(line))
         tasks = [self.asked.task_of(thread) for thread in line.threads]
         self.seen.update(task for task in tasks if task is not None)
-        self.is_woken = self.is_woken or (line.kind == "wake" and tasks[0] is not None)
         if is_stamped(line) or is_loss(line):
             self.greatest = max(self.greatest, line.processor)
         if line.kind == "switch" and (tasks[0] is not None or tasks[1] is not None) and self.asked.everywhere:
@@ -287,14 +301,11 @@ class Parts:
         self.number += 1
 
     def tally_with(self, line: Line) -> Tally:
-        """What the lines lack with the next one, but that they may end here. Who came last is kept along, and the last time that is asked for."""
-        tally, came = self.tally, self.came.get(line.processor)
-        if is_stamped(line) and (self.is_torn or self.is_lost_within(line)) and (self.asked.begin is None or self.asked.begin < line.time):
+        """What the lines lack with the next one, but that they may end here. The last time that is asked for is kept along."""
+        tally, came = self.tally, self.lines.came_last(line.processor)
+        is_place = self.is_lost_within(line) or self.is_torn or self.missing(line) is not None
+        if is_stamped(line) and is_place and self.is_behind_from(line):
             tally = tally._replace(losses=tally.losses + 1)
-        if is_loss(line):
-            self.came.clear()
-        elif line.kind == "switch":
-            self.came[line.processor] = line.threads[1]
         if not is_asked_for(line, self.asked):
             return tally
         if line.kind == "switch" and is_missing(line.threads[0], came, self.asked):
@@ -308,12 +319,13 @@ class Parts:
 
     def tally_here(self) -> Tally:
         """What the lines lack, where they end here."""
-        return self.tally._replace(losses=self.tally.losses + self.is_torn)
+        holders = {processor: self.lines.came_last(processor) for processor in self.lines.own}
+        silent, silent_since, silent_on = silence_of(self.lines.own, holders, self.shown().end, self.asked)
+        return self.tally._replace(losses=self.tally.losses + self.is_torn, silent=silent, silent_since=silent_since, silent_on=silent_on)
 
     def take_counted(self, line: Line) -> None:
         """The next line that counts."""
-        for follower in self.followers:
-            follower.take(line, self.counted)
+        self.tasks.take(line, self.counted)
         self.watch.take(line, self.counted.last, self.followers)
         for thread in line.threads:
             task = self.asked.task_of(thread)
@@ -325,7 +337,7 @@ class Parts:
 
     def shown(self) -> Shown:
         """What is asked for and shown."""
-        return shown_by(self.lines.last, self.asked)
+        return shown_by(self.lines.last, self.asked, self.lines.first or 0)
 
     def jobs(self, follower: Follower) -> List[Job]:
         """The jobs of a task, of which one may have a processor now."""
@@ -354,8 +366,7 @@ class Parts:
     def is_settled(self, one: Judged) -> bool:
         """No line that still comes can change what is said of it."""
         job, shown = one.job, self.shown()
-        followed = job.begin < self.followers[one.task].jobs[-1].begin
-        is_over = {"open": False, "ended": True, "unseen": followed, "lost": job.at < shown.end}[job.state]
+        is_over = {"open": False, "ended": True, "lost": job.at < shown.end and one.due <= shown.end}[job.state]
         return is_over and job.begin + self.asked.tasks[one.task].apart <= self.lines.last
 
     def place(self, waiting: List[Judged], processor: int) -> Optional[int]:
@@ -418,8 +429,7 @@ class Parts:
     def piece(self, processor: int, cut: Cut, is_told: bool) -> Piece:
         """What is written of a processor behind this line. One of which no line has told is no fault."""
         waiting = self.how_much(processor, cut)
-        may_write = self.asked.at_run or self.is_woken
-        if may_write and self.limits.is_much(waiting):
+        if self.limits.is_much(waiting):
             by_task = self.waiting(processor, cut)
             place = self.place(in_order(by_task), processor)
             if place is not None:
@@ -428,8 +438,6 @@ class Parts:
                     return Piece(replace(cut, boundary=place, decided=self.lines.last))
                 return self.part(processor, cut, mine, place)
         if is_told and self.limits.is_too_much(waiting):
-            if not may_write:
-                raise line_fault(self.in_text, "unwoken")
             raise self.no_place(in_order(self.waiting(processor, cut)))
         return Piece(cut)
 
@@ -463,7 +471,7 @@ class Parts:
         """The first limit that a part passes."""
         try:
             if may_be_empty and not document.rows:
-                document.check_missed()
+                document.check_jobs()
             else:
                 document.check()
         except Wrong as wrong:
@@ -505,8 +513,6 @@ class Parts:
             cause = "lost"
         elif unseen:
             cause = unseen_task(unseen[0])
-        elif not self.asked.at_run and not self.is_woken:
-            cause = "unwoken"
         if cause is not None:
             raise line_fault(self.in_text or lines, cause, "whole")
 

@@ -51,14 +51,14 @@ MISTAKES = [
         ("lost_on(processor, Since::TheBegin)", "lost_on(processor, Since::ItsLastLine)"),)),
     Mistake("a_loss_passed_over", "yds_trace/src/counted.rt", (
         ("        lose_each(&mut self.tasks, time);\n        self.past.lose();", "        let _ = time;\n        self.past.lose();"),)),
-    Mistake("the_new_speed_for_the_stretch_before_it", "yds_trace/src/past.rt", (
+    Mistake("the_new_speed_for_the_stretch_before_it", "yds_trace/src/counted.rt", (
         ("Happening::Speed { processor, .. } => Step::Speed {", "Happening::Speed { processor, khz } => Step::Speed {"),
-        ("                khz: self.speed(processor),\n", "                khz: Some(khz),\n"))),
+        ("                khz: self.past.speed(processor),\n", "                khz: Some(khz),\n"))),
     Mistake("apart_with_its_end", "yds_trace/src/jobs.rt", (("Some(end) => time < end,", "Some(end) => time <= end,"),)),
     Mistake("a_listed_speed_for_all_processors", "yds_trace/src/past.rt", (
-        ("Ok(Past::begun(alloc, None, first_told", "Ok(Past::begun(alloc, speeds.first().map(|speed| speed.khz), first_told"),)),
+        ("Ok(Past::begun(alloc, None, None, first_told", "Ok(Past::begun(alloc, speeds.first().map(|speed| speed.khz), None, first_told"),)),
     Mistake("a_first_switch_forgotten", "yds_trace/src/past.rt", (
-        ("let told = Told {\n                    switched: true,", "let told = Told {\n                    switched: false,"),)),
+        ("                    switched: Some(event.time),\n", "                    switched: before.switched,\n"),)),
     Mistake("to_without_its_own_time", "yds_trace/src/within.rt", (("Some(to) => time <= to,", "Some(to) => time < to,"),)),
     Mistake("a_loss_at_the_end_not_counted", "yds_trace/src/tally.rt", (
         ("        count_if(behind_loss, &mut tally.losses);", "        count_if(behind_loss && !behind_loss, &mut tally.losses);"),)),
@@ -67,8 +67,7 @@ MISTAKES = [
     Mistake("a_marker_behind_to_counted", "yds_trace/src/tally.rt", (("Happening::Marker => is_asked_for(from, to, event.time),", "Happening::Marker => is_after_from(from, event.time),"),)),
     Mistake("a_pause_of_just_a_second_told", "yds_trace_text/src/tally.rt", (("    pause.lasted > SECOND", "    pause.lasted >= SECOND"),)),
     Mistake("a_missing_switch_passed_over", "yds_trace/src/known.rt", (
-        ("        find_awake(alloc, leaving.time, &mut self.jobs)?;\n        mark_last(&mut self.jobs);\n",
-         "        find_awake(alloc, leaving.time, &mut self.jobs)?;\n"),)),
+        ("        mark_last(&mut self.jobs);\n        Ok(())\n", "        Ok(())\n"),)),
     Mistake("a_wake_up_counted_twice", "yds_trace/src/job.rt", (("        if !again {\n", "        if again || !again {\n"),)),
     Mistake("late_at_its_deadline", "yds_trace_document/src/judge.rt", (("&& (deadline < until ||", "&& (deadline <= until ||"),)),
     Mistake("open_at_its_deadline_in_time", "yds_trace_document/src/judge.rt", (
@@ -119,7 +118,7 @@ MISTAKES = [
     Mistake("a_loss_behind_a_part_passed_over", "yds_trace/src/check.rt", (
         ("lines.past.lost_since(*processor, *since) < cut.decided", "lines.past.lost_since(*processor, *since) < cut.boundary"),), "parts"),
     Mistake("a_thread_that_was_there_passed_over", "yds_trace/src/past.rt", (
-        ("self.whole_since.unwrap_or(time) < boundary", "time < boundary"),), "parts"),
+        ("told.since.unwrap_or(time) < boundary", "time < boundary"),), "parts"),
     Mistake("belongs_by_the_last_stretch", "yds_trace/src/share.rt", (
         ("    any_on(processor, &job.stretches)\n", "    any_on(processor, &job.stretches[job.stretches.len().saturating_sub(1)..])\n"),), "all"),
     Mistake("jobs_that_ran_nowhere_in_each_document", "yds_trace_document/src/membership.rt", (
@@ -155,17 +154,19 @@ MISTAKES = [
         ("        Some(before) if !starts => before,\n        Some(_) | None => time,\n",
          "        Some(before) if !starts || before < time => before,\n        Some(_) | None => time,\n"),)),
     Mistake("a_wake_up_forgotten_as_its_thread_goes_to_sleep", "yds_trace/src/known.rt", (
-        ("            started: if state == State::Sleeps {\n", "            started: if state == State::Exits {\n"),)),
+        ("        State::Sleeps => started,\n        State::GoesOn | State::Exits |", "        State::Exits => started,\n        State::GoesOn | State::Sleeps |"),)),
     Mistake("a_wake_up_that_was_done_not_forgotten", "yds_trace/src/known.rt", (
-        ("        self.woken.started = starts.then_some(time);\n", "        self.woken.started = Some(begin);\n"),)),
+        ("            started: (starts && may_run).then_some(time),\n", "            started: may_run.then_some(begin),\n"),)),
     Mistake("a_sleep_without_a_wake_up_ends_its_job", "yds_trace/src/jobs.rt", (
-        ("        (None, None) => put(job.went_on(end), jobs),\n",
-         "        (None, None) => {\n            let _ = end;\n            put(job, jobs)?;\n            begin(alloc, time, false, jobs)\n        }\n"),)),
+        ("        None if woken.ever && job.slept.is_none() => put(job.went_on(end), jobs),\n",
+         "        None if woken.ever && job.slept.is_none() => {\n            put(job, jobs)?;\n            begin(alloc, time, false, jobs)\n        }\n"),)),
     Mistake("a_second_such_sleep_in_a_job_passed_over", "yds_trace/src/counted.rt", (
         ("            Some(number) if needed && self.is_unwoken(number) => Err(Cause::NotWoken),\n",
          "            Some(number) if needed && !needed && self.is_unwoken(number) => Err(Cause::NotWoken),\n"),)),
-    Mistake("a_job_lost_behind_such_sleeps_goes_on", "yds_trace/src/jobs.rt", (
-        ("            put(job.lost(first), jobs)?;\n", "            put(job.lost(end.max(first)), jobs)?;\n"),)),
+    Mistake("a_job_lost_behind_such_sleeps_goes_on", "yds_trace/src/job.rt", (
+        ("        self.end = End::Lost(self.slept.unwrap_or(time));\n", "        self.end = End::Lost(time.max(self.slept.unwrap_or(time)));\n"),)),
+    Mistake("a_thread_that_was_never_woken_passed_over", "yds_trace/src/jobs.rt", (
+        ("End::Ended(_) => !ever || job.slept.is_some(),", "End::Ended(_) => ever && job.slept.is_some(),"),)),
     Mistake("a_loss_behind_such_a_sleep_passed_over", "yds_trace/src/job.rt", (
         ("        Some(slept) => time.min(slept),\n", "        Some(slept) => time.min(time.max(slept)),\n"),)),
     Mistake("a_line_of_a_thread_that_was_over_passed_over", "yds_trace/src/counted.rt", (
@@ -177,10 +178,33 @@ MISTAKES = [
     Mistake("an_exit_of_a_late_job_not_told", "yds_trace_text/src/ends.rt", (
         ("    if !judged.job.exited {\n", "    if !judged.job.exited || judged.late.is_some() {\n"),)),
     Mistake("a_thread_seen_elsewhere_taken_for_one_that_was_there", "yds_trace/src/known.rt", (
-        ("        !self.woken.seen && has_no_switch(&self.jobs)\n", "        has_no_switch(&self.jobs)\n"),)),
+        ("        if !torn && leaving.switched.is_none() && !self.woken.seen {\n", "        if !torn && leaving.switched.is_none() {\n"),)),
     Mistake("a_thread_that_is_back_behind_a_part_passed_over", "yds_trace/src/check.rt", (
-        ("                || comes_back(asked, counted, event, next, cut)\n",
-         "                || (event.time == 0 && comes_back(asked, counted, event, next, cut))\n"),), "parts"),
+        ("                || comes_back(asked, counted, event, previous, next, cut)\n",
+         "                || (event.time == 0 && comes_back(asked, counted, event, previous, next, cut))\n"),), "parts"),
+    Mistake("a_thread_that_is_back_as_it_leaves_passed_over", "yds_trace/src/check.rt", (
+        ("(is_back(asked, counted, previous, cut) || ", "((event.time == 0 && is_back(asked, counted, previous, cut)) || "),), "parts"),
+    # Switches that are missing, periods, one speed throughout, and silence.
+    Mistake("a_thread_on_two_processors_passed_over", "yds_trace/src/known.rt", (
+        ("                displaced.then_some(", "                (displaced && standing.came == 0).then_some("),)),
+    Mistake("missing_since_the_last_switch_alone", "yds_trace/src/known.rt", (
+        ("then_some(standing.came.min(leaving.last_told()))", "then_some(leaving.last_told())"),)),
+    Mistake("the_coming_of_a_sleeping_thread_missing_and_passed_over", "yds_trace/src/known.rt", (
+        ("            || is_awake(self.woken, &self.jobs)\n", "            || is_awake(self.woken, &self.jobs)\n            || leaving.time > 0\n"),)),
+    Mistake("a_task_elsewhere_is_lost", "yds_trace/src/known.rt", (
+        ("Some(standing) if !left && !came && standing.processor != processor => {", "Some(standing) if !left && !came && standing.processor > processor => {"),)),
+    Mistake("a_job_that_began_by_the_first_line_begins_there", "yds_trace/src/job.rt", (
+        ("        if time < self.begin {\n", "        if time != self.begin {\n"),)),
+    Mistake("a_period_behind_the_begin_of_the_job_before", "yds_trace/src/job.rt", (
+        ("            self.due_from.saturating_add(period).min(time)\n", "            self.begin.saturating_add(period).min(time)\n"),)),
+    Mistake("a_period_behind_a_begin_that_is_not_known", "yds_trace/src/job.rt", (
+        ("        if self.begin_known && period != 0 {\n", "        if period != 0 {\n"),)),
+    Mistake("the_fixed_speed_lost_with_events", "yds_trace/src/past.rt", (
+        ("Past::begun(alloc, Some(*khz), Some(*khz), Vec::new(alloc))", "Past::begun(alloc, Some(*khz), None, Vec::new(alloc))"),)),
+    Mistake("an_idle_processor_taken_for_a_silent_one", "yds_trace/src/past.rt", (
+        ("Some(since) if self.came(processor) != Some(0) => Silence {", "Some(since) if since != 0 || self.came(processor) != Some(0) => Silence {"),)),
+    Mistake("missing_switches_behind_a_part_passed_over", "yds_trace/src/check.rt", (
+        ("        Some(time) => time < cut.decided,\n", "        Some(time) => time < cut.boundary,\n"),), "parts"),
     Mistake("a_wake_up_done_behind_a_part_passed_over", "yds_trace/src/check.rt", (
         ("            !starts && is_woken_back(", "            !starts && event.time == 0 && is_woken_back("),), "parts"),
     # Lines out of order.

@@ -29,6 +29,7 @@ REMEDIES = {
     "events lost": "record with a larger buffer, or choose --from and --to around the loss",
     "a switch is missing": "record the switches of all threads, without a filter",
     "its begin isn't in the trace": "record sched_waking, and longer, or give --begin run",
+    "due before it begins": "choose a smaller unit by --us, or leave PERIOD out",
     "ran on another processor": "choose another processor by --cpu, or give --moved parts",
     "frequency not known": "give the speed by --start",
 }
@@ -51,6 +52,7 @@ class Task(NamedTuple):
     pid: Optional[int]
     deadline: int
     apart: int
+    period: int = 0
 
 
 @dataclass
@@ -67,6 +69,7 @@ class Asked:
     unit: int = 10_000
     khz: int = 10_000
     start: Optional[int] = None
+    fixed: Optional[int] = None
     starts: Dict[int, int] = field(default_factory=dict)
     begin: Optional[int] = None
     end: Optional[int] = None
@@ -78,6 +81,10 @@ class Asked:
     moved: bool = False
     others: Optional[int] = None
     asked_before: Dict[Thread, Optional[int]] = field(default_factory=dict)
+
+    def is_up_to(self, time: int) -> bool:
+        """Whether a time isn't after `to`."""
+        return self.end is None or time <= self.end
 
     def task_of(self, thread: Thread) -> Optional[int]:
         """Which task a thread is."""
@@ -118,6 +125,8 @@ HELPS = {
     "--us": "no unit of time; write whole microseconds from 1 to 1000000000",
     "--khz": "no speed; write whole kilohertz from 1 to 4294967295",
     "--start": "no speed; write whole kilohertz from 1 to 4294967295",
+    "--fixed": "no speed; write whole kilohertz from 1 to 4294967295",
+    "fixed and start": "given with --start; give one of both",
     "speed processor": "no number of a processor before the colon; write a whole number from 0 to 8191",
     "speed form": "no colon behind the processor; write CPU:KHZ, with the speed in kilohertz, or one speed for all processors",
     "many speeds": "more than 1000 speeds; list fewer, or give one for all processors",
@@ -137,10 +146,11 @@ HELPS = {
     "deadline": "no deadline; write milliseconds to 9223372036854.775807, with at most six digits behind the point",
     "short": "its deadline is less than a unit of time; write a later one, or a smaller unit by --us",
     "apart": "no time behind the second colon; write milliseconds, with at most six digits behind the point",
+    "period": "no time above 0 behind the third colon; write milliseconds, with at most six digits behind the point",
     "same label": "another task has the same name; write PID=NAME:DEADLINE with another name",
     "same thread": "another task is the same thread; list it once",
 }
-VALUES = ("--cpu", "--tasks", "--us", "--khz", "--start", "--from", "--to", "--begin", "--lost", "--moved", "--others")
+VALUES = ("--cpu", "--tasks", "--us", "--khz", "--start", "--fixed", "--from", "--to", "--begin", "--lost", "--moved", "--others")
 FLAGS = ("--parts", "--strict", "--help", "--version")
 
 
@@ -214,10 +224,14 @@ def task_in(text: str, unit: int, place: int) -> Task:
         raise word_fault("--tasks", "deadline", place)
     if deadline < unit:
         raise word_fault("--tasks", "short", place)
-    apart = 0 if second is None else decimal(plain(second), 6, MOST_TIME)
+    distance, third = ("", "") if second is None else once(second, ":")
+    apart = 0 if second is None or (distance == "" and third is not None) else decimal(plain(distance), 6, MOST_TIME)
     if apart is None:
         raise word_fault("--tasks", "apart", place)
-    return Task(label.encode(), pid, deadline, apart)
+    period = 0 if second is None or third is None else decimal(plain(third), 6, MOST_TIME) or None
+    if period is None:
+        raise word_fault("--tasks", "period", place)
+    return Task(label.encode(), pid, deadline, apart, period)
 
 
 def tasks_in(text: str, unit: int) -> List[Task]:
@@ -335,6 +349,10 @@ def asked_by(words: List[str]) -> Asked:
         asked.starts = speeds_in(given["--start"])
     elif "--start" in given:
         asked.start = whole("--start", given["--start"], 1, MOST_NUMBER)
+    if "--fixed" in given:
+        asked.fixed = whole("--fixed", given["--fixed"], 1, MOST_NUMBER)
+        if "--start" in given:
+            raise word_fault("--fixed", "fixed and start")
     asked.begin, asked.end = (time_of(given, word) for word in ("--from", "--to"))
     asked.counted = tuple(word for word in ("--from", "--to") if counts_from_first(given, word))
     if len(asked.counted) != 1 and asked.begin is not None and asked.end is not None and asked.begin >= asked.end:
@@ -419,11 +437,12 @@ CAUSES = {
     "tasks": "one thread is two tasks, by its number and by its name; leave one out",
     "exited": "a task's thread was over before, and its number is that of another thread now; choose --from and --to around it",
     "renamed": "a task's thread has another name here, so it isn't followed; give its number, which stays, by PID=NAME:DEADLINE",
-    "not woken": ("a task comes behind a sleep without a wake-up, twice in one job; record sched_waking, sched_wakeup and sched_wakeup_new,"
-                  " let jobs begin at their first run by --begin run, or go on by --lost cut"),
+    "missing": "a switch of a task is missing before it; record with a larger buffer, or go on by --lost cut",
+    "speed": "it tells another speed than --fixed does; leave out --fixed, or give --start",
+    "not woken": ("a task comes behind a sleep without a wake-up, twice in one job or before any of it; record sched_waking, sched_wakeup and"
+                  " sched_wakeup_new, let jobs begin at their first run by --begin run, or go on by --lost cut"),
     "none": ("no line of a kernel's trace; write it as text, by trace-cmd report or perf script with cpu and time among its fields: a line "
              "has a processor as [001] and a time with a point as 12.345678: before its event's name"),
-    "unwoken": "no wake-up of a task; record sched_waking too, or let jobs begin at their first run by --begin run",
     "part written": "it changes jobs of a part that was written; choose --from and --to around it",
 }
 
@@ -533,15 +552,28 @@ def since_loss(past: List[Line]) -> List[Line]:
     return past[at + 1 :]
 
 
+def last_switch(processor: int, past: List[Line]) -> Optional[Line]:
+    """A processor's last switch since the last loss."""
+    return next((line for line in reversed(since_loss(past)) if line.kind == "switch" and line.processor == processor), None)
+
+
 def has_switched(processor: int, past: List[Line]) -> bool:
     """Whether a processor has switched since the last loss."""
-    return any(line.kind == "switch" and line.processor == processor for line in since_loss(past))
+    return last_switch(processor, past) is not None
+
+
+def came_last(processor: int, past: List[Line]) -> Optional[Thread]:
+    """Who came to a processor by its last switch since events were lost."""
+    switch = last_switch(processor, past)
+    return None if switch is None else switch.threads[1]
 
 
 def speed_of(processor: int, past: List[Line], asked: Asked) -> Optional[int]:
     """A processor's speed behind these lines."""
     whole_part = since_loss(past)
     told = [line.khz for line in whole_part if line.kind == "speed" and line.of == processor]
+    if asked.fixed is not None:
+        return told[-1] if told else asked.fixed
     before_all = asked.starts.get(processor, asked.start)
     return told[-1] if told else before_all if len(whole_part) == len(past) else None
 
@@ -556,35 +588,37 @@ class Past:
         """A processor's speed behind them."""
         return speed_of(processor, self.lines, self.asked)
 
-    def has_switched(self, processor: int) -> bool:
-        """Whether a processor has switched since the last loss."""
-        return has_switched(processor, self.lines)
+    def switched(self, processor: int) -> Optional[int]:
+        """When a processor switched last, since the last loss."""
+        switch = last_switch(processor, self.lines)
+        return None if switch is None else switch.time
 
-    def whole_since(self, other: int) -> int:
-        """The time of the first line behind the last loss."""
-        return first_time(since_loss(self.lines), other)
+    def came_last(self, processor: int) -> Optional[Thread]:
+        """Who came to it then."""
+        return came_last(processor, self.lines)
+
+    def lines_since(self, processor: int, other: int) -> int:
+        """The time of a processor's first line behind the last loss."""
+        return first_time([line for line in since_loss(self.lines) if line.processor == processor], other)
 
     def lost_since(self, line: Line) -> int:
         """Since when events were lost, as a line behind them tells."""
         return lost_since(line, self.lines)
 
 
-def counting(lines: List[Line], asked: Asked) -> List[Line]:
-    """The lines that count: those up to `to`, later ones that tell of a loss before it, and who had a processor until then."""
+def counted(line: Line, lines: List[Line], count: List[Line], asked: Asked) -> Optional[Line]:
+    """A line behind these, of which some count, as it counts, if it does: up to `to`, or what tells of a loss before it, or of who had a processor
+    until then."""
     end = asked.end
     if end is None:
-        return lines
-    found: List[Line] = []
-    for at, line in enumerate(lines):
-        if is_loss(line):
-            if lost_since(line, lines[:at]) < end:
-                found.append(line)
-        elif line.time <= end:
-            found.append(line)
-        elif line.kind == "switch" and not has_switched(line.processor, found):
-            stays = (line.threads[0], line.threads[0])
-            found.append(Line("switch", line.processor, end, stays, "GoesOn"))
-    return found
+        return line
+    if is_loss(line):
+        return line if lost_since(line, lines) < end else None
+    if line.time <= end:
+        return line
+    if line.kind == "switch" and not has_switched(line.processor, count):
+        return Line("switch", line.processor, end, (line.threads[0], line.threads[0]), "GoesOn")
+    return None
 
 
 def pid_of(task: int, past: List[Line], asked: Asked) -> Optional[int]:
@@ -614,26 +648,17 @@ def thread_fault(thread: Thread, past: List[Line], asked: Asked) -> Optional[str
     return "renamed" if before is None and was_one else None
 
 
-def is_unwoken(thread: Thread, past: List[Line], asked: Asked) -> bool:
-    """Whether a thread that comes now left to sleep twice in its job, and no wake-up ended either sleep."""
-    task = asked.task_of(thread)
-    if task is None or asked.cut or asked.at_run:
-        return False
-    told = [line for line in since_loss(past) if any(asked.task_of(one) == task for one in line.threads)]
-    if not told or told[-1].kind != "switch" or told[-1].state != "Sleeps" or asked.task_of(told[-1].threads[1]) == task:
-        return False
-    return followed(task, past, asked).slept_before()
-
-
-def threads_fault(line: Line, lines: List[Line], asked: Asked) -> Optional[str]:
+def threads_fault(line: Line, reading: "Reading") -> Optional[str]:
     """What the threads of an event are refused for."""
-    past = counting(lines, asked)
-    if asked.end is not None and line.time > asked.end:
+    asked, past = reading.asked, reading.count
+    if not asked.is_up_to(line.time):
         if line.kind != "switch" or has_switched(line.processor, past):
             return None
         return thread_fault(line.threads[0], past, asked)
-    if line.time < last_time(lines):
+    if line.time < last_time(reading.lines):
         return "back"
+    if line.kind == "speed":
+        return "speed" if asked.fixed is not None and asked.fixed != line.khz else None
     if not line.threads:
         return None
     found = [thread_fault(line.threads[0], past, asked)]
@@ -643,7 +668,7 @@ def threads_fault(line: Line, lines: List[Line], asked: Asked) -> Optional[str]:
         found.append("state" if mine is not None and line.state == "Unknown" else None)
         found.append(thread_fault(second, past, asked))
         found.append("threads" if mine is not None and asked.task_of(second) == mine and first.pid != second.pid else None)
-        found.append("not woken" if is_unwoken(second, past, asked) else None)
+        found.append("not woken" if reading.tasks.is_unwoken(second) else None)
     return next((fault for fault in found if fault), None)
 
 
@@ -663,7 +688,7 @@ def is_place_of_loss(line: Line, lines: List[Line], asked: Asked) -> bool:
     return is_stamped(line) and (asked.begin is None or asked.begin < line.time) and (own or just_lost(lines, asked))
 
 
-def cause_of(line: Line, lines: List[Line], asked: Asked) -> Optional[str]:
+def cause_of(line: Line, reading: "Reading") -> Optional[str]:
     """What a line is refused for behind these lines."""
     if not is_stamped(line):
         return "processor" if is_loss(line) and line.processor > MOST_PROCESSOR else None
@@ -671,10 +696,12 @@ def cause_of(line: Line, lines: List[Line], asked: Asked) -> Optional[str]:
         return "processor"
     if line.time > MOST_TIME:
         return "time"
-    fault = threads_fault(line, lines, asked)
-    if fault is not None:
+    fault = threads_fault(line, reading)
+    if fault is not None or reading.asked.cut:
         return fault
-    return "lost" if not asked.cut and is_place_of_loss(line, lines, asked) else None
+    if is_place_of_loss(line, reading.lines, reading.asked):
+        return "lost"
+    return "missing" if reading.is_behind_missing(line) else None
 
 
 def begun(order: Ordered, asked: Asked) -> Asked:
@@ -691,20 +718,50 @@ def begun(order: Ordered, asked: Asked) -> Asked:
     return replace(asked, begin=begin, end=end, counted=())
 
 
-def read_lines(order: Ordered, asked: Asked) -> List[Line]:
+class Reading:
+    """Lines of a trace, which stand in order of time: those that count, what is known of the tasks behind them, and before how many, within what is
+    asked for, events were lost."""
+
+    def __init__(self, asked: Asked) -> None:
+        self.asked = asked
+        self.lines: List[Line] = []
+        self.count: List[Line] = []
+        self.tasks = Tasks(asked)
+        self.places = 0
+
+    def past(self) -> "Past":
+        """The lines that count."""
+        return Past(self.count, self.asked)
+
+    def is_behind_missing(self, line: Line) -> bool:
+        """An event, within what is asked for, before which switches of tasks are missing."""
+        within_asked = self.asked.is_up_to(line.time) and (self.asked.begin is None or self.asked.begin < line.time)
+        return line.kind == "switch" and within_asked and self.tasks.missing(line, self.past()) is not None
+
+    def take(self, line: Line) -> None:
+        """The next line."""
+        self.places += is_place_of_loss(line, self.lines, self.asked) or self.is_behind_missing(line)
+        own = counted(line, self.lines, self.count, self.asked)
+        if own is not None:
+            self.tasks.take(own, self.past())
+            self.count.append(own)
+        self.lines.append(line)
+
+
+def read_lines(order: Ordered, asked: Asked) -> Reading:
     """What the lines say, in order of time."""
-    lines: List[Line] = []
+    reading = Reading(asked)
     for one in order.placed:
-        cause = cause_of(one.line, lines, asked)
+        cause = cause_of(one.line, reading)
         if cause is not None:
             raise line_fault(one.number, cause)
-        lines.append(one.line)
+        reading.take(one.line)
     if order.refused is not None:
         raise order.refused
-    cause = whole_cause(lines, asked)
+    cause = whole_cause(reading.lines, asked)
     if cause is not None:
-        raise line_fault(order.number_at(len(lines)), cause, "whole")
-    return lines
+        raise line_fault(order.number_at(len(reading.lines)), cause, "whole")
+    return reading
 
 
 def whole_cause(lines: List[Line], asked: Asked) -> Optional[str]:
@@ -713,11 +770,8 @@ def whole_cause(lines: List[Line], asked: Asked) -> Optional[str]:
         return "none"
     if not asked.cut and just_lost(lines, asked):
         return "lost"
-    for number in range(len(asked.tasks)):
-        if pid_of(number, lines, asked) is None:
-            return unseen_task(number)
-    woken = any(line.kind == "wake" and asked.task_of(line.threads[0]) is not None for line in lines)
-    return "unwoken" if not asked.at_run and not woken else None
+    unseen = [number for number in range(len(asked.tasks)) if pid_of(number, lines, asked) is None]
+    return unseen_task(unseen[0]) if unseen else None
 
 
 # # The jobs of a task
@@ -734,14 +788,15 @@ class Stretch(NamedTuple):
 
 @dataclass
 class Job:
-    """A job: `state` is open, ended, unseen or lost, and `at` when it ended, or was seen last. With one that is `exited` its thread was over.
-    Where its thread left to sleep and came without a wake-up, `slept` is when it left."""
+    """A job: `state` is open, ended or lost, and `at` when it ended, or was seen last. Its deadline counts from `due_from`. With one that is `exited`
+    its thread was over. Where its thread left to sleep and came without a wake-up, `slept` is when it left. With one that is `missing` its
+    thread left a processor to which it wasn't seen to come."""
 
     begin: int
     known: bool
+    due_from: int
     state: str = "open"
     at: int = 0
-    goes_on: bool = False
     ran: List[Stretch] = field(default_factory=list)
     wakes: int = 0
     missing: bool = False
@@ -757,119 +812,161 @@ class Follower:
 
     def __init__(self, asked: Asked, number: int) -> None:
         self.asked, self.number = asked, number
-        self.apart = asked.tasks[number].apart
+        self.apart, self.period = asked.tasks[number].apart, asked.tasks[number].period
         self.jobs: List[Job] = []
         self.on: Optional[Tuple[int, int, int]] = None
         self.woken = False
         self.started: Optional[int] = None
         self.seen = False
+        self.ever = False
 
     def state(self) -> str:
         """That of the last job."""
         return self.jobs[-1].state if self.jobs else "lost"
 
+    # How a job begins
+
     def begin(self, time: int, known: bool) -> None:
-        """A job begins, here or before."""
-        self.jobs.append(Job(time, known))
+        """A job begins, here or before, and is due by that."""
+        self.jobs.append(Job(time, known, time))
+
+    def follow(self, time: int, last: Job) -> None:
+        """A job begins behind one that has ended. With a period it is due no later than so long behind that one, if that one's begin is known."""
+        due_from = min(time, last.due_from + self.period) if self.period and last.known else time
+        self.jobs.append(Job(time, True, due_from))
 
     def stir(self, time: int) -> None:
         """A wake-up, or a first run where jobs begin at one, with no job open."""
         last = self.jobs[-1] if self.state() == "ended" else None
-        if last is not None and time - last.begin == self.apart > 0:
-            last.just_apart = True
-        if last is not None and time - last.begin < self.apart:
-            if last.known:
-                last.state = "open"
-                last.again += 1
-            else:
-                self.begin(time, False)
+        if last is None:
+            self.begin(time, not self.asked.at_run)
+            return
+        last.just_apart = last.just_apart or time - last.begin == self.apart > 0
+        if time - last.begin >= self.apart:
+            self.follow(time, last)
+        elif last.known:
+            last.state = "open"
+            last.again += 1
         else:
-            self.begin(time, last is not None or not self.asked.at_run)
+            self.begin(time, False)
 
     def wake(self, line: Line) -> None:
-        """It is woken: from when that was started, where this is the second half."""
-        if self.state() == "open" and self.jobs:
+        """It is woken: from when that was started, where this is the second half. While it may run, it may come before a sleep, and end that."""
+        may_run = self.state() == "open" or not self.seen
+        if self.state() == "open":
             self.jobs[-1].wakes += 0 if self.woken else 1
         elif line.starts or self.started is None:
             self.stir(line.time)
         else:
             self.stir(self.started)
             self.jobs[-1].raced = "and both halves tell"
-        self.woken, self.started = True, line.time if line.starts else None
-
-    def awake(self, time: int) -> None:
-        """It is found awake."""
-        if self.state() == "unseen" and self.jobs[-1].goes_on:
-            self.jobs[-1].state = "open"
-        elif self.state() != "open":
-            self.begin(time, False)
+        self.woken, self.ever, self.started = True, True, line.time if line.starts and may_run else None
 
     def slept_before(self) -> bool:
-        """Its thread left to sleep, and no wake-up ended that, nor a sleep before in the same job."""
+        """Its thread left to sleep, and no wake-up ended that, nor a sleep before in the same job, or none was ever seen."""
         asleep = self.state() == "ended" and self.seen and self.started is None
-        return asleep and self.jobs[-1].slept is not None
+        return asleep and (not self.ever or self.jobs[-1].slept is not None)
 
-    def come_back(self, time: int) -> None:
-        """It comes behind its job's end. It was woken as it went to sleep, or it hasn't slept; if that is so twice, a wake-up is missing."""
-        last = self.jobs[-1]
-        if not self.seen:
-            self.begin(time, False)
+    def awake(self, time: int) -> None:
+        """It comes, or is found to have come."""
+        last = self.jobs[-1] if self.state() == "ended" and self.seen else None
+        if last is None:
+            self.found(time, False)
         elif self.started is not None:
             self.stir(self.started)
             self.jobs[-1].raced = "and one half tells"
-        elif last.slept is None:
+        elif self.ever and last.slept is None:
             last.state, last.slept = "open", last.at
         else:
-            if last.slept < last.at:
-                last.state, last.at, last.raced = "lost", last.slept, "twice"
+            last.raced = "never woken" if last.slept is None else "twice"
+            last.state, last.at = "lost", last.at if last.slept is None else last.slept
             self.begin(time, False)
 
-    def vanish(self) -> None:
-        """It isn't where it came to."""
-        if self.on is not None:
-            job = self.jobs[-1]
-            job.state, job.at, job.missing = "unseen", self.on[1], True
-            job.goes_on = not self.asked.at_run and not self.woken
-            self.on = self.started = None
+    def found(self, time: int, known: bool) -> None:
+        """It runs here. Where no job is open one begins, here or before."""
+        if self.state() != "open":
+            self.begin(time, known)
 
-    def is_new(self) -> bool:
-        """No switch of it was seen since the begin or a loss."""
-        if self.on is not None or self.seen:
-            return False
-        last = self.jobs[-1] if self.jobs else Job(0, False, "lost")
-        return last.state == "lost" or (last.state == "open" and not last.ran and not last.missing)
+    # Whether switches are missing
 
-    def leave(self, line: Line, past: Past) -> None:
-        """It leaves a processor."""
+    def is_awake(self) -> bool:
+        """Its job is open, or it was woken while it went to sleep."""
+        return self.state() == "open" or (self.state() == "ended" and self.seen and self.started is not None)
+
+    def is_renamed(self, line: Line, past: "Past") -> bool:
+        """It leaves a processor to which it came under a name that is no task's."""
+        came = past.came_last(line.processor)
+        return came is not None and came.pid == line.threads[0].pid and self.asked.task_of(came) is None
+
+    def was_there(self, line: Line, past: "Past") -> bool:
+        """It leaves a processor that hasn't switched, and nothing of it was seen: since the begin, or since a loss."""
+        return past.switched(line.processor) is None and not self.seen
+
+    def missing(self, line: Line, past: "Past") -> Optional[int]:
+        """Since when a switch of it must be missing before this one, if one must.
+
+        It has this processor and doesn't leave it; or it has another one, and leaves this one or comes to it; or it has none and leaves
+        this one, was asleep, and neither was there from the begin on nor came under another name.
+        """
+        left, came = self.mine(line)
+        told_at = past.switched(line.processor)
+        told = past.lines_since(line.processor, line.time) if told_at is None else told_at
+        if self.on is None:
+            may_be = self.asked.at_run or self.is_awake() or self.is_renamed(line, past) or self.was_there(line, past)
+            return told if left and not may_be else None
+        is_elsewhere = self.on[0] != line.processor and (left or came)
+        is_still_here = self.on[0] == line.processor and not left
+        return min(self.on[1], told) if is_elsewhere or is_still_here else None
+
+    def tear(self, line: Line, since: int) -> None:
+        """Switches of tasks are missing before this one. Where it has another processor it came there, whatever was before."""
+        left, came = self.mine(line)
+        if self.on is None or left or came or self.on[0] == line.processor:
+            self.lose(since)
+        elif since < self.on[1]:
+            self.lose_jobs(since)
+            self.begin(self.on[1], False)
+            self.jobs[-1].raced = "elsewhere"
+
+    # Lines
+
+    def mine(self, line: Line) -> Tuple[bool, bool]:
+        """Whether it is the one that leaves, or is woken, and the one that comes."""
+        own = [self.asked.task_of(thread) == self.number for thread in line.threads]
+        return (own + [False, False])[0], (own + [False, False])[1]
+
+    def leave(self, line: Line, past: "Past", torn: bool) -> None:
+        """It leaves a processor. It is `torn` where switches of tasks are missing before."""
         khz = past.speed(line.processor)
-        stood = self.on is not None and self.on[0] == line.processor
-        if self.on is not None and stood:
+        if self.on is not None:
             self.jobs[-1].ran.append(Stretch(line.processor, self.on[2], line.time, khz))
-        elif self.is_new() and not past.has_switched(line.processor):
-            since = past.whole_since(line.time)
-            if self.state() == "open":
-                self.jobs[-1].begin, self.jobs[-1].known = since, False
-            else:
-                self.begin(since, False)
+        elif self.is_renamed(line, past):
+            if self.state() != "open":
+                self.begin(line.time, True)
+                self.jobs[-1].raced = "renamed"
+        elif not torn and self.was_there(line, past):
+            since = past.lines_since(line.processor, line.time)
+            self.found(since, False)
+            if since < self.jobs[-1].begin:
+                self.jobs[-1].begin, self.jobs[-1].known, self.jobs[-1].due_from = since, False, since
             self.jobs[-1].ran.append(Stretch(line.processor, since, line.time, khz))
         else:
-            self.vanish()
-            self.awake(line.time)
+            if self.asked.at_run:
+                self.found(line.time, False)
+            else:
+                self.awake(line.time)
             self.jobs[-1].missing = True
         if line.state in ("Sleeps", "Exits"):
             self.jobs[-1].state, self.jobs[-1].at, self.jobs[-1].exited = "ended", line.time, line.state == "Exits"
-        self.started = self.started if stood and line.state == "Sleeps" else None
+        self.started = self.started if line.state == "Sleeps" else None
         self.on, self.woken, self.seen = None, False, True
 
     def come(self, line: Line) -> None:
         """It comes to a processor."""
-        self.vanish()
-        if self.asked.at_run and self.state() != "open":
-            self.stir(line.time)
-        elif not self.asked.at_run and self.state() == "ended":
-            self.come_back(line.time)
-        elif not self.asked.at_run:
+        if not self.asked.at_run:
             self.awake(line.time)
+        elif self.state() != "open":
+            self.stir(line.time)
         self.on, self.woken, self.started, self.seen = (line.processor, line.time, line.time), False, None, True
 
     def cut(self, time: int, khz: Optional[int]) -> None:
@@ -878,52 +975,69 @@ class Follower:
             self.jobs[-1].ran.append(Stretch(self.on[0], self.on[2], time, khz))
             self.on = (self.on[0], self.on[1], time)
 
-    def lose(self, since: int) -> None:
-        """Events were lost. One that went on behind a sleep may have been woken there, if that was lost."""
+    def lose_jobs(self, since: int) -> None:
+        """Of a job that was open then no end is known. One that went on behind a sleep may have been woken there, if that was lost."""
         for job in self.jobs:
-            if job.state == "unseen" and job is not self.jobs[-1] and job.at <= since:
-                continue
-            known = since if job.slept is None else min(since, job.slept)
             if job.state == "lost":
                 job.at = min(job.at, since)
-            elif job.state == "unseen":
-                job.state, job.at = "lost", min(job.at, known)
             elif job.state == "open" or job.at > since:
-                job.state, job.at = "lost", known
-        self.on, self.woken, self.started, self.seen = None, False, None, False
+                job.state, job.at = "lost", since if job.slept is None else min(since, job.slept)
 
-    def take(self, line: Line, past: Past) -> None:
-        """The next line, behind these."""
-        mine = [self.asked.task_of(thread) == self.number for thread in line.threads]
+    def lose(self, since: int) -> None:
+        """Events were lost."""
+        self.lose_jobs(since)
+        self.on, self.woken, self.started, self.seen, self.ever = None, False, None, False, False
+
+    def take(self, line: Line, past: "Past", missing: Optional[int]) -> None:
+        """The next line, behind these; since when switches of tasks are missing before it, if some are."""
+        left, came = self.mine(line)
         if is_loss(line):
             self.lose(past.lost_since(line))
         elif line.kind == "speed" and self.on is not None and self.on[0] == line.of:
             self.cut(line.time, past.speed(line.of))
-        elif line.kind == "wake" and mine[0] and not self.asked.at_run:
+        elif line.kind == "wake" and left and not self.asked.at_run:
             self.wake(line)
         elif line.kind == "switch":
-            if mine[0]:
-                self.leave(line, past)
-            elif self.on is not None and self.on[0] == line.processor:
-                self.vanish()
-            if mine[1]:
+            if missing is not None:
+                self.tear(line, missing)
+            if left:
+                self.leave(line, past, missing is not None)
+            if came:
                 self.come(line)
 
 
-def followed(number: int, count: List[Line], asked: Asked) -> Follower:
-    """A task's thread, behind these lines, which count."""
-    follower = Follower(asked, number)
-    for at, line in enumerate(count):
-        follower.take(line, Past(count[:at], asked))
-    return follower
+class Tasks:
+    """The threads of all tasks, along the lines that count."""
+
+    def __init__(self, asked: Asked) -> None:
+        self.asked = asked
+        self.followers = [Follower(asked, number) for number in range(len(asked.tasks))]
+
+    def missing(self, line: Line, past: "Past") -> Optional[int]:
+        """Since when switches of theirs are missing before this line, if some are."""
+        if line.kind != "switch":
+            return None
+        since = [follower.missing(line, past) for follower in self.followers]
+        return min((time for time in since if time is not None), default=None)
+
+    def is_unwoken(self, thread: Thread) -> bool:
+        """Whether a thread that comes now left to sleep, and no wake-up ended that, for the second time in its job, or none was ever seen; where
+        that is asked for."""
+        task = self.asked.task_of(thread)
+        return task is not None and not self.asked.cut and not self.asked.at_run and self.followers[task].slept_before()
+
+    def take(self, line: Line, past: "Past") -> None:
+        """The next line."""
+        missing = self.missing(line, past)
+        for follower in self.followers:
+            follower.take(line, past, missing)
 
 
-def jobs_of(number: int, lines: List[Line], asked: Asked) -> List[Job]:
-    """The jobs of a task."""
-    count = counting(lines, asked)
-    follower = followed(number, count, asked)
+def jobs_of(number: int, reading: Reading) -> List[Job]:
+    """The jobs of a task. What still has a processor has had it until the end."""
+    follower = reading.tasks.followers[number]
     if follower.on is not None:
-        follower.cut(shown_by(last_time(lines), asked).end, speed_of(follower.on[0], count, asked))
+        follower.cut(shown_by(last_time(reading.lines), reading.asked).end, reading.past().speed(follower.on[0]))
     return follower.jobs
 
 
@@ -980,16 +1094,14 @@ class Watch:
         return self.ended + [self.going._replace(end=time)] if self.going is not None and goes_on else self.ended
 
 
-def spans_of(lines: List[Line], asked: Asked) -> List[Span]:
+def spans_of(reading: Reading) -> List[Span]:
     """Who else had the processor, by all lines of a trace."""
-    followers = [Follower(asked, number) for number in range(len(asked.tasks))]
-    watch = Watch(asked)
-    count = counting(lines, asked) if asked.others is not None else []
-    for at, line in enumerate(count):
-        for follower in followers:
-            follower.take(line, Past(count[:at], asked))
-        watch.take(line, last_time(count[:at]), followers)
-    return watch.spans(shown_by(last_time(lines), asked).end)
+    asked, count = reading.asked, reading.count
+    tasks, watch = Tasks(asked), Watch(asked)
+    for at, line in enumerate(count if asked.others is not None else []):
+        tasks.take(line, Past(count[:at], asked))
+        watch.take(line, last_time(count[:at]), tasks.followers)
+    return watch.spans(shown_by(last_time(reading.lines), asked).end)
 
 
 def within(spans: List[Span], begin: int, end: Optional[int] = None) -> List[Span]:
@@ -1003,7 +1115,7 @@ def within(spans: List[Span], begin: int, end: Optional[int] = None) -> List[Spa
 
 @dataclass
 class Judged:
-    """A job, its task and name, when it is due, by how much it is late, and why it doesn't stand as it is.
+    """A job, its task and name, when it is due, by how much it is late, whether that isn't known, and why it doesn't stand as it is.
 
     Where it is a share of a job that moved, `part` is the processor. Then its stretches are those on it.
     """
@@ -1013,6 +1125,7 @@ class Judged:
     job: Job
     due: int
     late: Optional[int]
+    unsure: bool
     reason: str
     part: Optional[int] = None
     runs: List[List[int]] = field(default_factory=list)
@@ -1024,17 +1137,18 @@ class Judged:
 
 
 class Shown(NamedTuple):
-    """The end of what is asked for and shown, and whether the trace goes on to `to`."""
+    """The first time that is shown, the end of what is asked for and shown, and whether the trace goes on to `to`."""
 
+    first: int
     end: int
     to_its_end: bool
 
 
-def shown_by(last: int, asked: Asked) -> Shown:
-    """The same of a trace whose last line has this time."""
+def shown_by(last: int, asked: Asked, first: int = 0) -> Shown:
+    """The same of a trace whose last line has this time, and the first one that."""
     if asked.end is None:
-        return Shown(last, False)
-    return Shown(min(asked.end, last), last >= asked.end)
+        return Shown(first, last, False)
+    return Shown(first, min(asked.end, last), last >= asked.end)
 
 
 def late_by(job: Job, due: int, end: int, asked: Asked) -> Optional[int]:
@@ -1045,7 +1159,15 @@ def late_by(job: Job, due: int, end: int, asked: Asked) -> Optional[int]:
     return shown - due if shown > due or (shown == due and job.state != "ended") else None
 
 
-def reason_of(job: Job, late: Optional[int], shown: Shown, asked: Asked) -> str:
+def is_unsure(job: Job, deadline: int, late: Optional[int], shown: Shown, asked: Asked) -> bool:
+    """Whether the lines don't tell if a job is late, where they are to. Its earliest deadline is in what is shown, and it isn't known to be over by then."""
+    if asked.cut or late is not None or (asked.begin is not None and job.begin < asked.begin):
+        return False
+    earliest = job.due_from if job.known or asked.at_run else max(shown.first, asked.begin or 0)
+    return earliest + deadline <= shown.end and not (job.state == "ended" and job.at <= earliest + deadline)
+
+
+def reason_of(job: Job, due: int, late: Optional[int], shown: Shown, asked: Asked) -> str:
     """Why a job doesn't stand as it is: the first of these."""
     end = shown.end
     unended = "after to" if shown.to_its_end else "not ended"
@@ -1055,6 +1177,7 @@ def reason_of(job: Job, late: Optional[int], shown: Shown, asked: Asked) -> str:
         ("a switch is missing", job.missing),
         (unended, job.state != "ended" and late is None),
         ("its begin isn't in the trace", not job.known),
+        ("due before it begins", due < job.begin + asked.unit),
         ("ran on another processor", any(ran.processor != asked.processor for ran in job.ran)),
         ("frequency not known", any(ran.begin < ran.end and ran.khz is None for ran in job.ran)),
     ]
@@ -1077,16 +1200,18 @@ def judge_jobs(number: int, jobs: List[Job], shown: Shown, asked: Asked, since: 
             share = share_of(whole_job, asked)
             job, part = (whole_job, None) if share is None else (share, asked.processor)
             last = "before" if before and place == 0 else str(place - int(before))
-            due = job.begin + task.deadline
+            due = job.due_from + task.deadline
             late = late_by(job, due, shown.end, asked)
-            found.append(Judged(number, f"{task.label.decode()}.{last}", job, due, late, reason_of(job, late, shown, asked), part))
+            unsure = is_unsure(job, task.deadline, late, shown, asked)
+            found.append(Judged(number, f"{task.label.decode()}.{last}", job, due, late, unsure, reason_of(job, due, late, shown, asked), part))
     return found
 
 
-def judge(lines: List[Line], asked: Asked) -> List[List[Judged]]:
+def judge(reading: Reading) -> List[List[Judged]]:
     """The jobs of each task."""
-    shown = shown_by(last_time(lines), asked)
-    return [judge_jobs(number, jobs_of(number, lines, asked), shown, asked) for number in range(len(asked.tasks))]
+    asked = reading.asked
+    shown = shown_by(last_time(reading.lines), asked, first_time(reading.lines))
+    return [judge_jobs(number, jobs_of(number, reading), shown, asked) for number in range(len(asked.tasks))]
 
 
 def in_order(by_task: List[List[Judged]]) -> List[Judged]:
@@ -1118,15 +1243,23 @@ def milliseconds(time: int) -> str:
     return f"{time // 10**6}.{time % 10**6:06d}"
 
 
+def seconds(time: int) -> str:
+    """Nanoseconds in seconds, exactly."""
+    return f"{time // 10**9}.{time % 10**9:09d}"
+
+
 class Tally(NamedTuple):
-    """What a trace lacks: places where events were lost, switches of other threads that are missing, lines that programs wrote, and the
-    longest time between two lines with a stamp, with its begin."""
+    """What a trace lacks: places where events were lost, switches of other threads that are missing, lines that programs wrote, the longest time
+    between two lines with a stamp, with its begin, and how long which processor tells nothing at the end, and since when."""
 
     losses: int = 0
     missing: int = 0
     markers: int = 0
     longest: int = 0
     since: int = 0
+    silent: int = 0
+    silent_since: int = 0
+    silent_on: int = 0
 
     def lines(self, in_parts: bool) -> Iterator[str]:
         """The comments. In parts more may follow."""
@@ -1135,10 +1268,13 @@ class Tally(NamedTuple):
         for what, number in zip(whats, self):
             if number:
                 yield f"# {what}{here}: {number}"
+        before = "up to here, " if in_parts else ""
         if self.longest > 10**9:
-            told = ["up to here"] if in_parts else []
-            told.append(f"no line for {self.longest // 10**9}.{self.longest % 10**9:09d} s")
-            yield f"# {', '.join(told)}, from {self.since // 10**9}.{self.since % 10**9:09d} s on: did the clock jump?"
+            yield f"# {before}no line for {seconds(self.longest)} s, from {seconds(self.since)} s on: did the clock jump?"
+        if self.silent > 10**9:
+            to_the_end = "" if in_parts else " to the end"
+            yield (f"# {before}no line of CPU {self.silent_on} for {seconds(self.silent)} s, from {seconds(self.silent_since)} s on{to_the_end}:"
+                   " what it did then isn't known")
 
 
 def is_asked_for(line: Line, asked: Asked) -> bool:
@@ -1151,21 +1287,27 @@ def is_missing(left: Thread, came: Optional[Thread], asked: Asked) -> bool:
     return came is not None and came.pid != left.pid and asked.task_of(came) is None and asked.task_of(left) is None
 
 
-def came_last(processor: int, past: List[Line]) -> Optional[Thread]:
-    """Who came to a processor by its last switch since events were lost."""
-    switches = [line for line in since_loss(past) if line.kind == "switch" and line.processor == processor]
-    return switches[-1].threads[1] if switches else None
+def silence_of(last_lines: Dict[int, int], holders: Dict[int, Optional[Thread]], end: int, asked: Asked) -> Tuple[int, int, int]:
+    """How long a processor told nothing at the end of what is asked for, since when, and which: the first of those that were silent longest. One that
+    was left idle isn't silent."""
+    idle = [processor for processor, thread in holders.items() if thread is not None and thread.pid == 0 and asked.task_of(thread) is None]
+    told = [(end - last, last, processor) for processor, last in sorted(last_lines.items()) if processor not in idle and last < end]
+    return max(told, key=lambda one: one[0], default=(0, 0, 0))
 
 
-def tally_of(lines: List[Line], asked: Asked) -> Tally:
+def tally_of(reading: Reading) -> Tally:
     """What these lines lack."""
-    losses = sum(is_place_of_loss(line, lines[:at], asked) for at, line in enumerate(lines)) + just_lost(lines, asked)
+    lines, asked = reading.lines, reading.asked
+    losses = reading.places + just_lost(lines, asked)
     own = [(at, line) for at, line in enumerate(lines) if is_asked_for(line, asked)]
     missing = sum(is_missing(line.threads[0], came_last(line.processor, lines[:at]), asked) for at, line in own if line.kind == "switch")
     markers = sum(line.kind == "marker" for _, line in own)
     pauses = [(after.time - before.time, before.time) for (_, before), (_, after) in zip(own, own[1:])]
     longest, since = max(pauses, key=lambda pause: pause[0], default=(0, 0))
-    return Tally(losses, missing, markers, longest, since)
+    last_lines = {line.processor: line.time for line in lines if is_stamped(line)}
+    holders = {processor: came_last(processor, lines) for processor in last_lines}
+    silence = silence_of(last_lines, holders, shown_by(last_time(lines), asked).end, asked)
+    return Tally(losses, missing, markers, longest, since, *silence)
 
 
 class Document:
@@ -1233,7 +1375,7 @@ class Document:
         self.check_rows()
         if not self.rows:
             raise Wrong(self.why_no_job(), 3, "document: no job")
-        self.check_missed()
+        self.check_jobs()
 
     def why_no_job(self) -> str:
         """The reason that most jobs have, and of several that of the job that began first."""
@@ -1272,8 +1414,13 @@ class Document:
             if not one.reason and any(self.is_in_run(ran) and self.speed(ran.khz or 0) > MOST_SPEED for ran in one.job.ran):
                 raise Wrong(f"found job {place}: it ran at a speed above 1000000 units; choose a greater unit by --khz", 3, "document: great speed")
 
-    def check_missed(self) -> None:
-        """With `--strict` the first job that doesn't stand."""
+    def check_jobs(self) -> None:
+        """The first job of which it isn't known whether it is late; and with `--strict` the first that doesn't stand."""
+        for place, one in enumerate(self.judged, 1):
+            if one.unsure:
+                reason = one.reason or "its end isn't in the trace"
+                remedy = REMEDIES.get(reason, "record longer")
+                raise Wrong(f"found job {place}: it isn't known whether {one.called} is late ({reason}); {remedy}", 3, "document: unsure")
         for place, one in enumerate(self.judged, 1):
             missed = one.late is not None or one.reason not in ("before from", "after to") if one.reason else one.job.exited
             if self.asked.strict and missed:
@@ -1362,7 +1509,7 @@ class Document:
 
     def left_out(self) -> Iterator[str]:
         """The comments of the jobs that are left out: the most frequent reason first."""
-        order = ["not ended", "events lost", "a switch is missing", "its begin isn't in the trace",
+        order = ["not ended", "events lost", "a switch is missing", "its begin isn't in the trace", "due before it begins",
                  "ran on another processor", "frequency not known"]
         groups: List[Tuple[bytes, str, List[str]]] = []
         for task, mine in zip(self.asked.tasks, self.by_task):
@@ -1403,7 +1550,7 @@ class Document:
                 yield f"# other {as_text(name)}-{span.pid} {begin} {end}"
 
     def wrong_units(self, task: Task, mine: List[Judged]) -> Iterator[str]:
-        """The comments of times that are likely in another unit."""
+        """The comments of times that are likely in another unit, and of jobs that begin farther apart than the deadline, of which none has a period."""
         begins = [one.job.begin for one in mine if one.job.known]
         if not begins or begins[0] >= begins[-1]:
             return
@@ -1413,6 +1560,9 @@ class Document:
             if how and value:
                 yield (f"# {what} of {task.label.decode()}, {milliseconds(value)} ms, is {how} the mean distance of its jobs'"
                        f" begins, {milliseconds(mean)} ms: is it in another unit?")
+        if not task.period and 101 * task.deadline < 100 * mean <= 10_000 * task.deadline:
+            yield (f"# {task.label.decode()}: {len(begins)} begins, {milliseconds(mean)} ms apart in the mean, a deadline of"
+                   f" {milliseconds(task.deadline)} ms: a period would tell frames that fall behind")
 
 
 class Told(NamedTuple):
@@ -1428,8 +1578,7 @@ class Told(NamedTuple):
 def whole_document(trace: bytes, asked: Asked) -> Document:
     """The document of a whole trace."""
     order = ordered(trace)
-    asked = begun(order, asked)
-    lines = read_lines(order, asked)
-    by_task = judge(lines, asked)
-    zero = zero_of(by_task, lines, asked)
-    return Document(by_task, zero, asked, tuple(within(spans_of(lines, asked), zero)), tally_of(lines, asked))
+    reading = read_lines(order, begun(order, asked))
+    by_task = judge(reading)
+    zero = zero_of(by_task, reading.lines, reading.asked)
+    return Document(by_task, zero, reading.asked, tuple(within(spans_of(reading), zero)), tally_of(reading))

@@ -5,7 +5,8 @@
 
 It draws TRACES traces (1,000) by drawn.py, each with words, with words that have a mistake or name files, and with
 lines that are taken out of the order of their times (exchanged.py), and as many of threads that are woken as they go to
-sleep, come back without a wake-up, are stopped, or are over: five formats; threads that sleep, are preempted,
+sleep, come back without a wake-up, are stopped, or are over, of switches that are missing, and of processors that are
+silent at the end: five formats; threads that sleep, are preempted,
 wait, starve and move among processors, with odd names; changes of speed at the stamp of a switch; fronts that are cut
 off, lost events, missing switches, each fault of a line, of its form, of a whole trace and of a document; `--from` and
 `--to`, of the clock and from the first line on; deadlines that are missed by a nanosecond; and one in eight in parts, and one in eight of all processors, of
@@ -60,14 +61,14 @@ def told(words: List[str], trace: bytes) -> Told:
 
 # Each is in at least 200 of 10,000 traces. A fault `document: great speed` can't be: a job with such a run has more work
 # than a job may have, which is told before. Nor can the faults of size, and what a line behind a written part is refused for.
-REASONS = ["before from", "events lost", "a switch is missing", "its begin isn't in the trace", "ran on another processor", "frequency not known"]
+REASONS = ["before from", "events lost", "a switch is missing", "its begin isn't in the trace", "due before it begins", "ran on another processor", "frequency not known"]
 WANTED = [
     *(f"format {form}" for form in ("kernel", "short", "raw", "perf", "perfetto")),
-    *(f"option {word}" for word in VALUES + FLAGS), "option --cpu all", "option --start of processors", "option APART", "a task by its number", "a value behind an equals sign",
+    *(f"option {word}" for word in VALUES + FLAGS), "option --cpu all", "option --start of processors", "option APART", "option PERIOD", "option PERIOD without APART", "a task by its number", "a value behind an equals sign",
     *(f"form: {reason}" for reason in FORMS),
-    *(f"line: {cause}" for cause in CAUSES if cause not in ("none", "unwoken", "part written")),
-    *(f"whole: {cause}" for cause in ("none", "lost", "a task unseen", "unwoken")),
-    *(f"document: {cause}" for cause in ("times", "work", "coarse speed", "no job", "strict")),
+    *(f"line: {cause}" for cause in CAUSES if cause not in ("none", "part written")),
+    *(f"whole: {cause}" for cause in ("none", "lost", "a task unseen")),
+    *(f"document: {cause}" for cause in ("times", "work", "coarse speed", "no job", "unsure", "strict")),
     *(f"word: {reason}" for reason in HELPS), "a time that counts from the first line", "no first line",
     *(f"late: {reason}" for reason in REASONS), *(f"left out: {reason}" for reason in REASONS + ["not ended", "after to"]),
     "a wake-up that starts alone", "a wake-up that was done alone", "a wake-up in both halves", "a woken name with a mark inside",
@@ -86,6 +87,9 @@ WANTED = [
     "comment late", "comment late, without its runs", "comment late in a run", "comment late by less", "comment late on another processor", "comment not ended", "comment begins", "comment ends",
     "comment left out", "comment stretch", "comment wake", "comment the deadline of", "comment APART of", "comment part", "comment other",
     "comment places where events were lost", "comment switches of other threads", "comment lines that programs wrote", "comment no line for",
+    "comment no line of CPU", "comment begins apart", "a job due by the one before", "a job due by the one before, late", "a switch is missing, gone on",
+    "a coming that is missing, in time", "a coming that is missing, late", "a job found as its thread is renamed", "a job that began elsewhere behind a missing switch",
+    "a job that is lost behind a sleep, and its thread was never woken",
     "out of order: neighbours of two processors", "out of order: 2 to 63 places", "out of order: 64 places", "out of order: 65 places",
     "out of order: a millisecond", "out of order: a nanosecond more", "out of order: behind one of its stamp", "out of order: over a loss",
     "out of order: beside a loss", "out of order: over --from", "out of order: over --to", "out of order: too far, behind --to",
@@ -110,8 +114,12 @@ def in_words(words: List[str]) -> Iterator[str]:
     if pairs:
         yield "option --start of processors"
     listed = next((word for word in words if word not in pairs and re.search(r":[0-9.]+(,|$)", word)), "")
-    if re.search(r":[0-9.]+:[0-9.]+(,|$)", listed):
+    if re.search(r":[0-9.]+:[0-9.]+(:|,|$)", listed):
         yield "option APART"
+    if re.search(r":[0-9.]+:[0-9.]*:[0-9.]+(,|$)", listed):
+        yield "option PERIOD"
+    if re.search(r":[0-9.]+::[0-9.]+(,|$)", listed):
+        yield "option PERIOD without APART"
     if re.search(r"(^|[,=])[0-9]+=", listed):
         yield "a task by its number"
 
@@ -178,6 +186,13 @@ def in_job(one: Judged, unit: int) -> Iterator[str]:
         f"a job that begins as its thread goes to sleep, {one.job.raced}": one.job.raced.startswith("and"),
         "a job that goes on behind a sleep without a wake-up": one.job.slept is not None and one.job.state != "lost",
         "a job that is lost behind two such sleeps": one.job.raced == "twice",
+        "a job that is lost behind a sleep, and its thread was never woken": one.job.raced == "never woken",
+        "a job found as its thread is renamed": one.job.raced == "renamed",
+        "a job that began elsewhere behind a missing switch": one.job.raced == "elsewhere",
+        "a job due by the one before": one.job.due_from < one.job.begin,
+        "a job due by the one before, late": one.job.due_from < one.job.begin and late is not None,
+        "a coming that is missing, in time": one.job.missing and late is None,
+        "a coming that is missing, late": one.job.missing and late is not None,
         "a job that is lost behind one such sleep, late": one.job.state == "lost" and one.job.slept == one.job.at and late is not None,
         "a job with which its thread was over": one.job.exited,
         "late by nothing": late == 0,
@@ -197,9 +212,11 @@ def over_from(one: Judged, asked: Asked) -> Iterator[str]:
 
 def in_text(text: str) -> Iterator[str]:
     """Which comments a document has."""
-    kinds = "part|other|late, without its runs|late on another processor|late by less|late in a run|late|not ended|begins|ends|left out|[0-9]+ stretch|[0-9]+ wake|the deadline of|APART of|places where events were lost|switches of other threads|lines that programs wrote|no line for|exited|went on"
+    kinds = "part|other|late, without its runs|late on another processor|late by less|late in a run|late|not ended|begins|ends|left out|[0-9]+ stretch|[0-9]+ wake|the deadline of|APART of|places where events were lost|switches of other threads|lines that programs wrote|no line for|no line of CPU|exited|went on"
     for mark in re.finditer(f"^# (?:up to here, )?({kinds})", text, re.M):
         yield "comment " + re.sub("[0-9]+ ", "", mark[1])
+    if "a period would tell" in text:
+        yield "comment begins apart"
 
 
 def in_others(document: Document) -> Iterator[str]:
@@ -276,6 +293,8 @@ def things(words: List[str], trace: bytes, said: Told) -> Set[str]:
         found.update(in_text(said.text))
     for document in documents:
         found.update(in_others(document))
+        if document.tally.losses and not re.search(rb"LOST|DROPPED|buffer started", trace):
+            found.add("a switch is missing, gone on")
         for one in document.judged:
             found.update(in_job(one, document.asked.unit))
             found.update(over_from(one, document.asked))

@@ -18,12 +18,14 @@ HOLES = "# places where events were lost: 3"
 SWITCHES = "# switches of other threads that are missing: 448"
 MARKERS = "# lines that programs wrote into the trace: 12"
 CLOCK = "# no line for 60.001000000 s, from 100.001000000 s on: did the clock jump?"
-ALL = [HOLES, SWITCHES, MARKERS, CLOCK]
+SILENT = "# no line of CPU 1 for 40.000000000 s, from 100.100000000 s on to the end: what it did then isn't known"
+ALL = [HOLES, SWITCHES, MARKERS, CLOCK, SILENT]
 UP_TO_HERE = [
     "# places where events were lost, up to here: 3",
     "# switches of other threads that are missing, up to here: 448",
     "# lines that programs wrote into the trace, up to here: 12",
     "# up to here, no line for 60.001000000 s, from 100.001000000 s on: did the clock jump?",
+    "# up to here, no line of CPU 1 for 40.000000000 s, from 100.100000000 s on: what it did then isn't known",
 ]
 JUMPED = (
     " if it did, times behind it are later than they were; if nothing was recorded, whole jobs may have been there"
@@ -73,13 +75,14 @@ class CommentTest(unittest.TestCase):
             SWITCHES.replace("other", "listed"),
             MARKERS.replace("programs", "a program"),
             CLOCK.replace("no line", "a line"),
+            SILENT.replace("no line", "a line"),
         ]:
             self.assertIsNone(lack_of(text), text)
 
     def test_a_broken_number_hides_no_hole(self) -> None:
-        for text in (HOLES, CLOCK):
+        for text in (HOLES, CLOCK, SILENT):
             for wrong in broken(text, 2):
-                if wrong.startswith(("# places where events were lost", "# no line for 60")):
+                if wrong.startswith(("# places where events were lost", "# no line for 60", "# no line of CPU 1")):
                     with self.subTest(wrong):
                         self.assertEqual(page_of(document([wrong])).ids["verdict"].attributes["class"], "open")
 
@@ -88,13 +91,15 @@ class VerdictTest(unittest.TestCase):
     """A trace with a hole is told, and its deadlines are met as far as the trace shows."""
 
     def test_misses(self) -> None:
-        told = ["# places where events were lost: 3: whole jobs may have been there", CLOCK + JUMPED]
+        rest = ": whole jobs may have been there"
+        told = [HOLES + rest, CLOCK + JUMPED, SILENT + rest]
         far = "feasible as far as the trace shows"
-        here = ["# places where events were lost, up to here: 3: whole jobs may have been there", UP_TO_HERE[3] + JUMPED]
+        here = [UP_TO_HERE[0] + rest, UP_TO_HERE[3] + JUMPED, UP_TO_HERE[4] + rest]
         for comments, wanted in [
             ([], ["feasible"]),
             ([HOLES], [told[0], far]),
             ([CLOCK], [told[1], far]),
+            ([SILENT], [told[2], far]),
             ([SWITCHES, MARKERS], ["feasible"]),
             (ALL, [*told, far]),
             (UP_TO_HERE, [*here, far]),
@@ -105,7 +110,7 @@ class VerdictTest(unittest.TestCase):
 
     def test_misses_beside_a_miss(self) -> None:
         found = asked("misses", given=document(ALL, late=True))
-        self.assertEqual((found.status, found.out.splitlines()[-3][:32], found.out.splitlines()[-1]), (1, HOLES[:32], "1 missed deadline"))
+        self.assertEqual((found.status, found.out.splitlines()[-4][:32], found.out.splitlines()[-1]), (1, HOLES[:32], "1 missed deadline"))
 
     def test_the_call(self) -> None:
         lines = [Line("-", place, text) for place, text in enumerate(document(ALL).splitlines(), 1)]
@@ -119,7 +124,8 @@ class VerdictTest(unittest.TestCase):
 
     def test_jobs(self) -> None:
         found = asked("jobs", given=document(ALL))
-        self.assertEqual(found.out.splitlines()[1:3], [f"{HOLES}: whole jobs may have been there", CLOCK + JUMPED])
+        rest = ": whole jobs may have been there"
+        self.assertEqual(found.out.splitlines()[1:4], [HOLES + rest, CLOCK + JUMPED, SILENT + rest])
         self.assertNotIn("events were lost", asked("jobs", given=document([SWITCHES, MARKERS])).out)
 
     def test_late_moved_keeps_them(self) -> None:
@@ -137,6 +143,7 @@ class PageTest(unittest.TestCase):
             ([HOLES], "open", "? As far as the trace shows, no deadline was missed by the 2 jobs that could be judged; events were lost"),
             (UP_TO_HERE, "open", "? As far as the trace shows, no deadline was missed"),
             ([CLOCK], "open", "? As far as the trace shows, no deadline was missed by the 2 jobs that could be judged; no line of the trace"),
+            ([SILENT], "open", "? As far as the trace shows, no deadline was missed by the 2 jobs that could be judged; a processor tells"),
         ]:
             with self.subTest(comments):
                 read = page_of(document(comments)).ids["verdict"]
@@ -147,7 +154,7 @@ class PageTest(unittest.TestCase):
         for comments in (ALL, UP_TO_HERE):
             rows = {row["What"].text: (row["Can it hide a miss?"].text, row["Why"].text) for row in page_of(document(comments)).table("unjudged")}
             told = [text[2:] for text in comments]
-            self.assertEqual([rows[text][0] for text in told], ["yes", "no", "no", "yes"])
+            self.assertEqual([rows[text][0] for text in told], ["yes", "no", "no", "yes", "yes"])
             self.assertEqual(rows[told[0]][1], "whole jobs may have been there")
             self.assertEqual(rows[told[1]][1], "the time of others isn't whole; where a switch of a listed task is missing, its job is told")
 
@@ -225,7 +232,8 @@ class PartsTest(unittest.TestCase):
     def test_whole_of_audit(self) -> None:
         found = self.texts(ALL)
         put = parts.whole(found, [b"feasible\n"] * 2)
-        wanted = [f"{HOLES}: whole jobs may have been there", CLOCK + JUMPED, "feasible"]
+        rest = ": whole jobs may have been there"
+        wanted = [HOLES + rest, CLOCK + JUMPED, SILENT + rest, "feasible"]
         self.assertEqual([line.decode().rstrip("\n") for line in put.lines], wanted)
         plain = self.texts([])
         self.assertEqual(list(parts.whole(plain, [b"feasible\n"] * 2).lines), [b"feasible\n"])
@@ -262,7 +270,7 @@ class PartsTest(unittest.TestCase):
         two = one.replace("part 1: jobs 1 to 1", "part 2: jobs 2 to 2").replace("shift 0", "shift 0, the last").replace("a.0", "a.1")
         text = "".join(part + told + "# 1 job written, none left out\n" for part in (one, two))
         found = list(parts.split([line.encode() + b"\n" for line in text.splitlines()]))
-        self.assertEqual([part.text.decode().count("up to here") for part in found], [4, 4])
+        self.assertEqual([part.text.decode().count("up to here") for part in found], [5, 5])
 
 
 class KeptTest(unittest.TestCase):

@@ -6,7 +6,7 @@ from typing import Dict, List, NamedTuple, Optional, Sequence, Set, Tuple, Union
 
 from yds._comments import IDLE_THREADS
 from yds._framed import EDGE, MISSED, SMALL, TEXT, Choice, Frame, Groups, Key, grouped, in_words, shortened_name
-from yds._lacking import CLOCK, HOLES, NOT_JUDGED, NOT_WHOLE, SWITCHES
+from yds._lacking import CLOCK, HOLES, NOT_JUDGED, NOT_WHOLE, SILENT, SWITCHES
 from yds._pixels import Columns, Share, Stretch, as_many_as_fit, columns_of, is_narrow, merged, shares, text_width
 from yds._scales import Scale, short, span_told, speed_scale, time_scale
 from yds._text import Fault, counted
@@ -169,7 +169,7 @@ class _Drawing:
         late = sorted((job for job in jobs if job.miss == LATE), key=lambda job: -(job.late or 0))
         notes = [self._note("not done", undone), self._note("late", [self._told(job) for job in late])]
         lacking = self.document.lacking
-        lacks = [f"{lacking.told(HOLES)}: {NOT_JUDGED}" if lacking.told(HOLES) else "", lacking.told(CLOCK)]
+        lacks = [f"{lacking.told(HOLES)}: {NOT_JUDGED}" if lacking.told(HOLES) else "", lacking.told(CLOCK), lacking.told(SILENT)]
         return [note for note in [*notes, *self._left_out(), *lacks] if note]
 
     def _told(self, job: Window) -> str:

@@ -10,7 +10,7 @@ from yds._beside_least import LEAST, RAN, Bar, Energies
 from yds._by_task import TaskRow
 from yds._comments import IDLE_THREADS, OTHERS, Missing, unknown_works, workless
 from yds._facts import Facts, Missed
-from yds._lacking import HOLES, NOT_WHOLE, SWITCHES
+from yds._lacking import CLOCK, HOLES, NOT_WHOLE, SWITCHES
 from yds._least import judged
 from yds._markup import LINE_FEED, NONE, Markup, Scale, element, exactly, join, number, of_bytes, percent, shown, table
 from yds._text import counted, printable
@@ -48,7 +48,9 @@ def verdict_line(facts: Facts) -> Tuple[str, Markup]:
         return "no", join([told, f", the worst {shown(worst.miss.job)}", lateness(worst, facts.scale)])
     judged_jobs = f"{jobs:,} jobs" if jobs > 1 else "job"
     if facts.given.lacking.may_hide:
-        holes = "events were lost" if HOLES in facts.given.lacking.found else "no line of the trace tells of some time"
+        found = facts.given.lacking.found
+        untold = "no line of the trace tells of some time" if CLOCK in found else "a processor tells nothing at the end"
+        holes = "events were lost" if HOLES in found else untold
         told = f"As far as the trace shows, no deadline was missed by the {judged_jobs} that could be judged; {holes}"
         return "open", Markup(element("span", f"{told}, so others may hide a miss"))
     if facts.may_hide:

@@ -7,7 +7,7 @@ from typing import Dict, Iterable, List, NamedTuple, Sequence, Tuple
 
 from yds._comments import LEFT_OUT, left_out_jobs, note_of
 from yds._heads import closing
-from yds._lacking import CLOCK, HOLES, JUMPED, MARKERS, NOT_JUDGED, NOT_WHOLE, SWITCHES, lack_of
+from yds._lacking import CLOCK, HOLES, JUMPED, MARKERS, NOT_JUDGED, NOT_WHOLE, SILENT, SWITCHES, lack_of
 from yds._text import counted
 from yds._timeline import task_of
 from yds._unknown import EXITED, OfThread, of_thread
@@ -40,6 +40,7 @@ _REASONS: List[Tuple[str, bool, str]] = [
     ("not ended", True, "the trace ended before its deadline"),
     ("ran on ", False, _KNOWN),
     ("frequency not known", False, _KNOWN),
+    ("due before it begins", False, _KNOWN),
 ]
 """The begins of reasons, whether a job left out for it can be late, and why."""
 _OF_LACKS: Dict[str, Tuple[bool, str]] = {
@@ -47,6 +48,7 @@ _OF_LACKS: Dict[str, Tuple[bool, str]] = {
     SWITCHES: (False, f"{NOT_WHOLE}; where a switch of a listed task is missing, its job is told"),
     MARKERS: (False, "they tell of no thread that ran"),
     CLOCK: (True, JUMPED),
+    SILENT: (True, NOT_JUDGED),
 }
 """Of each kind of what a trace lacks, whether it can hide a missed deadline, and why."""
 

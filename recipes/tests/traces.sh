@@ -54,10 +54,10 @@ late_without_runs() {
 	echo '          <idle>-0     [000]   200.090000: hrtimer_expire_entry: hrtimer=0 now=1' >>"$work/open"
 	# shellcheck disable=SC2086
 	told_once "not ended" render.1 "render.1 (ran on another processor), not ended 24.000000 ms after its deadline; window 5000 6600" from "$work/open" trace $t
-	# Without its wake-up its begin isn't known; it was there when it came.
-	sed 6d elsewhere.txt >"$work/unwoken"
+	# Its thread comes first without a wake-up: its begin isn't known; it was there when it came.
+	sed 3,6d elsewhere.txt >"$work/unwoken"
 	# shellcheck disable=SC2086
-	told_once "no wake-up" render.1 "render.1 (its begin isn't in the trace), at least 25.000000 ms after its deadline" from "$work/unwoken" trace $t
+	told_once "no wake-up" render.before "render.before (its begin isn't in the trace), at least 25.000000 ms after its deadline" from "$work/unwoken" trace $t
 	# Events are lost after it came, and it was late by then.
 	sed '7s/$/\n          <idle>-0     [000]   200.080000: cpu_frequency:        state=1000000 cpu_id=1\nCPU:0 [LOST 3 EVENTS]/' "$work/here" >"$work/gap"
 	# shellcheck disable=SC2086

@@ -1,5 +1,5 @@
 -- Where a task's first jobs are forgotten: each event acts on its last job, which is kept. Of those before it only a loss changes the end.
-use Rattle.base.proofs.Common.{◌≡◌, ◌≢◌, ◌∙◌, ℕ, suc, ◌+◌, ◌<◌, List, [], ◌∷◌, ◌++◌, map, reverse, Bool, true, false, not, ◌==◌, ◌&&◌, nat_lt, if◌then◌else◌, Option, Some, None, is_none, All, refl, sym, ap, subst, append-nil, map-append, length-map, All-map, arith, ne_eqb}
+use Rattle.base.proofs.Common.{◌≡◌, ◌≢◌, ◌∙◌, ℕ, suc, ◌+◌, ◌<◌, List, [], ◌∷◌, ◌++◌, map, reverse, Bool, true, false, not, ◌==◌, ◌&&◌, ◌||◌, nat_lt, if◌then◌else◌, Option, Some, None, is_some, is_none, All, refl, sym, ap, subst, append-nil, map-append, length-map, All-map, arith, ne_eqb}
 use Rattle.yds_kernel.specs.declared.state.State.{State}
 use Rattle.yds_kernel.specs.declared.state.State.TheVariants as states
 use Rattle.yds_kernel.specs.Event.{Said}
@@ -7,13 +7,14 @@ use Rattle.yds_trace.specs.declared.followed.Followed.{Followed}
 use Rattle.yds_trace.specs.declared.job.End.{End}
 use Rattle.yds_trace.specs.declared.job.End.TheVariants as ends
 use Rattle.yds_trace.specs.declared.job.Leaving.{Leaving}
+use Rattle.yds_trace.specs.declared.job.Pace.{Pace}
 use Rattle.yds_trace.specs.declared.job.Standing.{Standing}
 use Rattle.yds_trace.specs.declared.job.Woken.{Woken}
 use Rattle.yds_trace.specs.declared.step.Step.{Step}
 use Rattle.yds_trace.specs.declared.step.Step.TheVariants as steps
 use Rattle.yds_trace.specs.Asked.{Asked}
 use Rattle.yds_trace.specs.Document.{began_before}
-use Rattle.yds_trace.specs.Jobs.{Job, Known, began, reopened, woken_after, counted, woken_jobs, awake_jobs, went_on, back_jobs, come_jobs, running_jobs, changed_last, ended, exits, missing, ran, left_unseen, vanished, stands_on, passed_by, comes, has_no_switch, is_new, begun_at_most, begun_by, stretch_of, left_from, left_in, leaves, woken_at, wakes_up, speeds, lost_job, lost_earlier, lost_jobs, loses, left_if, after_switch, known_after}
+use Rattle.yds_trace.specs.Jobs.{Job, Known, began, began_behind, reopened, woken_after, counted, woken_jobs, back_jobs, come_jobs, running_jobs, found_jobs, changed_last, ended, exits, missing, ran, comes, begun_at_most, begun_by, stretch_of, left_unseen, left_from, left_in, left_started, leaves, woken_at, wakes_up, speeds, has_open_job, lost_job, loses, torn_jobs, torn, torn_if, left_if, after_switch, known_after}
 use Rattle.yds_trace.specs.Kept.{behind, KeepsLast, AreForgotten, IsFollowed}
 use Rattle.yds_trace.specs.Views.{known_read}
 use Rattle.yds_trace.specs.Steps.{stepped}
@@ -52,112 +53,94 @@ split_if forgotten true false whole kept other_whole other_kept same split other
 split_if forgotten false true whole kept other_whole other_kept same split other = absurd cc
 split_if forgotten false false whole kept other_whole other_kept same split other = other
 
-split_end : (forgotten : List Job) (end : End) (whole kept : List Job) (ended_whole ended_kept : ℕ → List Job) (unseen_whole unseen_kept : ℕ → Bool → List Job)
-    (lost_whole lost_kept : ℕ → List Job) → Split forgotten whole kept → ((time : ℕ) → Split forgotten (ended_whole time) (ended_kept time)) →
-    ((time : ℕ) (goes_on : Bool) → Split forgotten (unseen_whole time goes_on) (unseen_kept time goes_on)) →
+split_end : (forgotten : List Job) (end : End) (whole kept : List Job) (ended_whole ended_kept lost_whole lost_kept : ℕ → List Job) →
+    Split forgotten whole kept → ((time : ℕ) → Split forgotten (ended_whole time) (ended_kept time)) →
     ((time : ℕ) → Split forgotten (lost_whole time) (lost_kept time)) →
     Split forgotten
-    (elim end [ ends.Open ↦ whole | ends.Ended time ↦ ended_whole time | ends.Unseen time goes_on ↦ unseen_whole time goes_on | ends.Lost time ↦ lost_whole time ])
-    (elim end [ ends.Open ↦ kept | ends.Ended time ↦ ended_kept time | ends.Unseen time goes_on ↦ unseen_kept time goes_on | ends.Lost time ↦ lost_kept time ])
-split_end forgotten ends.Open whole kept ew ek uw uk lw lk a b c d = a
-split_end forgotten (ends.Ended time) whole kept ew ek uw uk lw lk a b c d = b time
-split_end forgotten (ends.Unseen time goes_on) whole kept ew ek uw uk lw lk a b c d = c time goes_on
-split_end forgotten (ends.Lost time) whole kept ew ek uw uk lw lk a b c d = d time
+    (elim end [ ends.Open ↦ whole | ends.Ended time ↦ ended_whole time | ends.Lost time ↦ lost_whole time ])
+    (elim end [ ends.Open ↦ kept | ends.Ended time ↦ ended_kept time | ends.Lost time ↦ lost_kept time ])
+split_end forgotten ends.Open whole kept ew ek lw lk a b c = a
+split_end forgotten (ends.Ended time) whole kept ew ek lw lk a b c = b time
+split_end forgotten (ends.Lost time) whole kept ew ek lw lk a b c = c time
 
 pub changed_split : (change : Job → Job) (forgotten whole kept : List Job) → Split forgotten whole kept →
     Split forgotten (changed_last change whole) (changed_last change kept)
 changed_split change = acts (changed_last change) (λ job jobs forgotten. record { is = refl; last = tt })
 
-woken_after_split : (apart time : ℕ) (job : Job) (jobs forgotten : List Job) →
-    Split forgotten (woken_after apart time job (jobs ++ forgotten)) (woken_after apart time job jobs)
-woken_after_split apart time job jobs forgotten =
-    split_if forgotten (not (nat_lt time (job.begin + apart))) (not (nat_lt time (job.begin + apart))) (began time true (job ∷ (jobs ++ forgotten))) (began time true (job ∷ jobs))
+woken_after_split : (pace : Pace) (time : ℕ) (job : Job) (jobs forgotten : List Job) →
+    Split forgotten (woken_after pace time job (jobs ++ forgotten)) (woken_after pace time job jobs)
+woken_after_split pace time job jobs forgotten =
+    split_if forgotten (not (nat_lt time (job.begin + pace.apart))) (not (nat_lt time (job.begin + pace.apart))) (began_behind pace.period time job (jobs ++ forgotten)) (began_behind pace.period time job jobs)
     (if job.begin_known then reopened job ∷ (jobs ++ forgotten) else began time false (job ∷ (jobs ++ forgotten)))
     (if job.begin_known then reopened job ∷ jobs else began time false (job ∷ jobs)) refl
     (record { is = refl; last = tt })
     (split_if forgotten job.begin_known job.begin_known (reopened job ∷ (jobs ++ forgotten)) (reopened job ∷ jobs)
     (began time false (job ∷ (jobs ++ forgotten))) (began time false (job ∷ jobs)) refl (record { is = refl; last = tt }) (record { is = refl; last = tt }))
 
-woken_split : (apart time : ℕ) (again : Bool) (forgotten whole kept : List Job) → Split forgotten whole kept →
-    Split forgotten (woken_jobs apart time again whole) (woken_jobs apart time again kept)
-woken_split apart time again = acts (woken_jobs apart time again) (λ job jobs forgotten.
+woken_split : (pace : Pace) (time : ℕ) (again : Bool) (forgotten whole kept : List Job) → Split forgotten whole kept →
+    Split forgotten (woken_jobs pace time again whole) (woken_jobs pace time again kept)
+woken_split pace time again = acts (woken_jobs pace time again) (λ job jobs forgotten.
     split_end forgotten job.end (counted again job ∷ (jobs ++ forgotten)) (counted again job ∷ jobs)
-    (λ end. woken_after apart time job (jobs ++ forgotten)) (λ end. woken_after apart time job jobs)
-    (λ last goes_on. began time true (job ∷ (jobs ++ forgotten))) (λ last goes_on. began time true (job ∷ jobs))
+    (λ end. woken_after pace time job (jobs ++ forgotten)) (λ end. woken_after pace time job jobs)
     (λ last. began time true (job ∷ (jobs ++ forgotten))) (λ last. began time true (job ∷ jobs))
-    (record { is = refl; last = tt }) (λ end. woken_after_split apart time job jobs forgotten)
-    (λ last goes_on. record { is = refl; last = tt }) (λ last. record { is = refl; last = tt }))
-
-awake_split : (time : ℕ) (forgotten whole kept : List Job) → Split forgotten whole kept → Split forgotten (awake_jobs time whole) (awake_jobs time kept)
-awake_split time = acts (awake_jobs time) (λ job jobs forgotten.
-    split_end forgotten job.end (job ∷ (jobs ++ forgotten)) (job ∷ jobs)
-    (λ end. began time false (job ∷ (jobs ++ forgotten))) (λ end. began time false (job ∷ jobs))
-    (λ last goes_on. if goes_on then reopened job ∷ (jobs ++ forgotten) else began time false (job ∷ (jobs ++ forgotten)))
-    (λ last goes_on. if goes_on then reopened job ∷ jobs else began time false (job ∷ jobs))
-    (λ last. began time false (job ∷ (jobs ++ forgotten))) (λ last. began time false (job ∷ jobs))
-    (record { is = refl; last = tt }) (λ end. record { is = refl; last = tt })
-    (λ last goes_on. split_if forgotten goes_on goes_on (reopened job ∷ (jobs ++ forgotten)) (reopened job ∷ jobs)
-    (began time false (job ∷ (jobs ++ forgotten))) (began time false (job ∷ jobs)) refl (record { is = refl; last = tt }) (record { is = refl; last = tt }))
+    (record { is = refl; last = tt }) (λ end. woken_after_split pace time job jobs forgotten)
     (λ last. record { is = refl; last = tt }))
 
--- Its thread comes back: the last job goes on, or another one begins, or the last one is lost.
-slept_split : (forgotten : List Job) (slept : Option ℕ) (time end : ℕ) (job : Job) (jobs : List Job) →
-    Split forgotten
-    (elim slept [ None ↦ went_on end job ∷ (jobs ++ forgotten) | Some first ↦ began time false (lost_job first job ∷ (jobs ++ forgotten)) ])
-    (elim slept [ None ↦ went_on end job ∷ jobs | Some first ↦ began time false (lost_job first job ∷ jobs) ])
-slept_split forgotten None time end job jobs = record { is = refl; last = tt }
-slept_split forgotten (Some first) time end job jobs = record { is = refl; last = tt }
+-- Its thread comes back: the last job goes on, or another one begins, or the last one has no known end.
+back_split : (pace : Pace) (time end : ℕ) (ever : Bool) (started : Option ℕ) (job : Job) (jobs forgotten : List Job) →
+    Split forgotten (back_jobs pace time end ever started job (jobs ++ forgotten)) (back_jobs pace time end ever started job jobs)
+back_split pace time end ever None job jobs forgotten =
+    split_if forgotten (ever && is_none job.slept) (ever && is_none job.slept) _ _ _ _ refl (record { is = refl; last = tt }) (record { is = refl; last = tt })
+back_split pace time end ever (Some woken) job jobs forgotten = woken_after_split pace woken job jobs forgotten
 
-back_split : (apart time end : ℕ) (started : Option ℕ) (job : Job) (jobs forgotten : List Job) →
-    Split forgotten (back_jobs apart time end started job (jobs ++ forgotten)) (back_jobs apart time end started job jobs)
-back_split apart time end None job jobs forgotten = slept_split forgotten job.slept time end job jobs
-back_split apart time end (Some woken) job jobs forgotten = woken_after_split apart woken job jobs forgotten
-
-come_split : (apart time : ℕ) (woken : Woken) (forgotten whole kept : List Job) → Split forgotten whole kept →
-    Split forgotten (come_jobs apart time woken whole) (come_jobs apart time woken kept)
-come_split apart time woken = acts (come_jobs apart time woken) (λ job jobs forgotten.
+come_split : (pace : Pace) (time : ℕ) (woken : Woken) (forgotten whole kept : List Job) → Split forgotten whole kept →
+    Split forgotten (come_jobs pace time woken whole) (come_jobs pace time woken kept)
+come_split pace time woken = acts (come_jobs pace time woken) (λ job jobs forgotten.
     split_end forgotten job.end (job ∷ (jobs ++ forgotten)) (job ∷ jobs)
-    (λ end. if woken.seen then back_jobs apart time end woken.started job (jobs ++ forgotten) else began time false (job ∷ (jobs ++ forgotten)))
-    (λ end. if woken.seen then back_jobs apart time end woken.started job jobs else began time false (job ∷ jobs))
-    (λ last goes_on. if goes_on then reopened job ∷ (jobs ++ forgotten) else began time false (job ∷ (jobs ++ forgotten)))
-    (λ last goes_on. if goes_on then reopened job ∷ jobs else began time false (job ∷ jobs))
+    (λ end. if woken.seen then back_jobs pace time end woken.ever woken.started job (jobs ++ forgotten) else began time false (job ∷ (jobs ++ forgotten)))
+    (λ end. if woken.seen then back_jobs pace time end woken.ever woken.started job jobs else began time false (job ∷ jobs))
     (λ last. began time false (job ∷ (jobs ++ forgotten))) (λ last. began time false (job ∷ jobs))
     (record { is = refl; last = tt })
-    (λ end. split_if forgotten woken.seen woken.seen (back_jobs apart time end woken.started job (jobs ++ forgotten)) (back_jobs apart time end woken.started job jobs)
-    (began time false (job ∷ (jobs ++ forgotten))) (began time false (job ∷ jobs)) refl (back_split apart time end woken.started job jobs forgotten) (record { is = refl; last = tt }))
-    (λ last goes_on. split_if forgotten goes_on goes_on (reopened job ∷ (jobs ++ forgotten)) (reopened job ∷ jobs)
-    (began time false (job ∷ (jobs ++ forgotten))) (began time false (job ∷ jobs)) refl (record { is = refl; last = tt }) (record { is = refl; last = tt }))
+    (λ end. split_if forgotten woken.seen woken.seen (back_jobs pace time end woken.ever woken.started job (jobs ++ forgotten)) (back_jobs pace time end woken.ever woken.started job jobs)
+    (began time false (job ∷ (jobs ++ forgotten))) (began time false (job ∷ jobs)) refl (back_split pace time end woken.ever woken.started job jobs forgotten) (record { is = refl; last = tt }))
     (λ last. record { is = refl; last = tt }))
 
-running_split : (apart time : ℕ) (forgotten whole kept : List Job) → Split forgotten whole kept →
-    Split forgotten (running_jobs apart time whole) (running_jobs apart time kept)
-running_split apart time = acts (running_jobs apart time) (λ job jobs forgotten.
+running_split : (pace : Pace) (time : ℕ) (forgotten whole kept : List Job) → Split forgotten whole kept →
+    Split forgotten (running_jobs pace time whole) (running_jobs pace time kept)
+running_split pace time = acts (running_jobs pace time) (λ job jobs forgotten.
     split_end forgotten job.end (job ∷ (jobs ++ forgotten)) (job ∷ jobs)
-    (λ end. woken_after apart time job (jobs ++ forgotten)) (λ end. woken_after apart time job jobs)
-    (λ last goes_on. began time false (job ∷ (jobs ++ forgotten))) (λ last goes_on. began time false (job ∷ jobs))
+    (λ end. woken_after pace time job (jobs ++ forgotten)) (λ end. woken_after pace time job jobs)
     (λ last. began time false (job ∷ (jobs ++ forgotten))) (λ last. began time false (job ∷ jobs))
-    (record { is = refl; last = tt }) (λ end. woken_after_split apart time job jobs forgotten)
-    (λ last goes_on. record { is = refl; last = tt }) (λ last. record { is = refl; last = tt }))
+    (record { is = refl; last = tt }) (λ end. woken_after_split pace time job jobs forgotten)
+    (λ last. record { is = refl; last = tt }))
 
 begun_split : (time : ℕ) (forgotten whole kept : List Job) → Split forgotten whole kept → Split forgotten (begun_by time whole) (begun_by time kept)
 begun_split time = acts (begun_by time) (λ job jobs forgotten.
     split_end forgotten job.end (begun_at_most time job ∷ (jobs ++ forgotten)) (begun_at_most time job ∷ jobs)
     (λ end. began time false (job ∷ (jobs ++ forgotten))) (λ end. began time false (job ∷ jobs))
-    (λ last goes_on. began time false (job ∷ (jobs ++ forgotten))) (λ last goes_on. began time false (job ∷ jobs))
     (λ last. began time false (job ∷ (jobs ++ forgotten))) (λ last. began time false (job ∷ jobs))
     (record { is = refl; last = tt }) (λ end. record { is = refl; last = tt })
-    (λ last goes_on. record { is = refl; last = tt }) (λ last. record { is = refl; last = tt }))
+    (λ last. record { is = refl; last = tt }))
 
-switch_split : (kept forgotten : List Job) → KeepsLast kept forgotten → has_no_switch (kept ++ forgotten) ≡ has_no_switch kept
-switch_split [] forgotten none = ap has_no_switch none
-switch_split (job ∷ jobs) forgotten last = refl
+found_split : (time : ℕ) (certain : Bool) (forgotten whole kept : List Job) → Split forgotten whole kept →
+    Split forgotten (found_jobs time certain whole) (found_jobs time certain kept)
+found_split time certain = acts (found_jobs time certain) (λ job jobs forgotten.
+    split_end forgotten job.end (job ∷ (jobs ++ forgotten)) (job ∷ jobs)
+    (λ end. began time certain (job ∷ (jobs ++ forgotten))) (λ end. began time certain (job ∷ jobs))
+    (λ last. began time certain (job ∷ (jobs ++ forgotten))) (λ last. began time certain (job ∷ jobs))
+    (record { is = refl; last = tt }) (λ end. record { is = refl; last = tt }) (λ last. record { is = refl; last = tt }))
 
 lost_split : (time : ℕ) (kept forgotten : List Job) → KeepsLast kept forgotten →
-    Split (map (lost_earlier time) forgotten) (lost_jobs time (kept ++ forgotten)) (lost_jobs time kept)
+    Split (map (lost_job time) forgotten) (map (lost_job time) (kept ++ forgotten)) (map (lost_job time) kept)
 lost_split time [] forgotten none =
-    subst (λ (rest : List Job). Split (map (lost_earlier time) rest) (lost_jobs time rest) []) (sym none) (record { is = refl; last = refl })
+    subst (λ (rest : List Job). Split (map (lost_job time) rest) (map (lost_job time) rest) []) (sym none) (record { is = refl; last = refl })
 lost_split time (job ∷ jobs) forgotten last =
-    record { is = ap (λ (rest : List Job). lost_job time job ∷ rest) (map-append (lost_earlier time) jobs forgotten); last = tt }
+    record { is = ap (λ (rest : List Job). lost_job time job ∷ rest) (map-append (lost_job time) jobs forgotten); last = tt }
+
+-- a job begins behind others
+begun_more : (time : ℕ) (certain : Bool) (forgotten whole kept : List Job) → Split forgotten whole kept →
+    Split forgotten (began time certain whole) (began time certain kept)
+begun_more time certain forgotten whole kept split = record { is = ap (began time certain) split.is; last = tt }
 
 -- # What is known of a task
 
@@ -186,80 +169,69 @@ known_if : (forgotten : List Job) (b : Bool) (whole kept other_whole other_kept 
 known_if forgotten true whole kept other_whole other_kept split other = split
 known_if forgotten false whole kept other_whole other_kept split other = other
 
-vanished_on : (forgotten : List Job) (wakes : Bool) (on : Option Standing) (jobs : List Job) (woken : Woken) → KeepsLast jobs forgotten →
-    IsBehind forgotten (vanished wakes (record { jobs = jobs ++ forgotten; on = on; woken = woken })) (vanished wakes (record { jobs = jobs; on = on; woken = woken }))
-vanished_on forgotten wakes None jobs woken last = record { is = refl; last = last }
-vanished_on forgotten wakes (Some standing) jobs woken last =
-    of_jobs forgotten _ _ None (record woken { started = None }) (changed_split (left_unseen standing.came (wakes && not woken.came)) forgotten (jobs ++ forgotten) jobs (kept_jobs forgotten jobs last))
+comes_behind : (forgotten : List Job) (pace : Pace) (wakes : Bool) (processor time : ℕ) (kept : Known) → KeepsLast kept.jobs forgotten →
+    IsBehind forgotten (comes pace wakes processor time (behind forgotten kept)) (comes pace wakes processor time kept)
+comes_behind forgotten pace wakes processor time kept last =
+    of_jobs forgotten _ _ (Some (record { processor = processor; came = time; since = time })) _
+    (split_if forgotten wakes wakes (come_jobs pace time kept.woken (kept.jobs ++ forgotten)) (come_jobs pace time kept.woken kept.jobs)
+    (running_jobs pace time (kept.jobs ++ forgotten)) (running_jobs pace time kept.jobs) refl
+    (come_split pace time kept.woken forgotten _ _ (kept_jobs forgotten kept.jobs last))
+    (running_split pace time forgotten _ _ (kept_jobs forgotten kept.jobs last)))
 
-vanished_behind : (forgotten : List Job) (wakes : Bool) (kept : Known) → KeepsLast kept.jobs forgotten →
-    IsBehind forgotten (vanished wakes (behind forgotten kept)) (vanished wakes kept)
-vanished_behind forgotten wakes kept last = vanished_on forgotten wakes kept.on kept.jobs kept.woken last
+unseen_split : (forgotten : List Job) (pace : Pace) (wakes torn : Bool) (leaving : Leaving) (kept : Known) → KeepsLast kept.jobs forgotten →
+    Split forgotten (left_unseen pace wakes torn leaving (behind forgotten kept)) (left_unseen pace wakes torn leaving kept)
+unseen_split forgotten pace wakes torn leaving kept last =
+    let all : Split forgotten (kept.jobs ++ forgotten) kept.jobs = kept_jobs forgotten kept.jobs last in
+    split_if forgotten leaving.renamed leaving.renamed _ _ _ _ refl
+    (found_split leaving.time true forgotten _ _ all)
+    (split_if forgotten (not torn && is_none leaving.switched && not kept.woken.seen) (not torn && is_none leaving.switched && not kept.woken.seen) _ _ _ _ refl
+    (changed_split (ran (stretch_of leaving leaving.lines_since)) forgotten _ _ (begun_split leaving.lines_since forgotten _ _ all))
+    (changed_split missing forgotten _ _
+    (split_if forgotten wakes wakes (come_jobs pace leaving.time kept.woken (kept.jobs ++ forgotten)) (come_jobs pace leaving.time kept.woken kept.jobs)
+    (found_jobs leaving.time false (kept.jobs ++ forgotten)) (found_jobs leaving.time false kept.jobs) refl
+    (come_split pace leaving.time kept.woken forgotten _ _ all)
+    (found_split leaving.time false forgotten _ _ all))))
 
-passed_behind : (forgotten : List Job) (wakes : Bool) (processor : ℕ) (kept : Known) → KeepsLast kept.jobs forgotten →
-    IsBehind forgotten (passed_by wakes processor (behind forgotten kept)) (passed_by wakes processor kept)
-passed_behind forgotten wakes processor kept last =
-    known_if forgotten (stands_on processor kept.on) (vanished wakes (behind forgotten kept)) (vanished wakes kept) (behind forgotten kept) kept
-    (vanished_behind forgotten wakes kept last) (record { is = refl; last = last })
-
-comes_behind : (forgotten : List Job) (apart : ℕ) (wakes : Bool) (processor time : ℕ) (kept : Known) → KeepsLast kept.jobs forgotten →
-    IsBehind forgotten (comes apart wakes processor time (behind forgotten kept)) (comes apart wakes processor time kept)
-comes_behind forgotten apart wakes processor time kept last =
-    let gone : Split forgotten (vanished wakes (behind forgotten kept)).jobs (vanished wakes kept).jobs = jobs_of forgotten _ _ (vanished_behind forgotten wakes kept last) in
-    let same : (vanished wakes (behind forgotten kept)).woken ≡ (vanished wakes kept).woken =
-    ap (λ (known : Known). known.woken) (vanished_behind forgotten wakes kept last).is in
-    of_jobs forgotten _ _ (Some (record { processor = processor; came = time; since = time })) (record { came = false; started = None; seen = true })
-    (split_if forgotten wakes wakes (come_jobs apart time (vanished wakes (behind forgotten kept)).woken (vanished wakes (behind forgotten kept)).jobs)
-    (come_jobs apart time (vanished wakes kept).woken (vanished wakes kept).jobs)
-    (running_jobs apart time (vanished wakes (behind forgotten kept)).jobs) (running_jobs apart time (vanished wakes kept).jobs) refl
-    (subst (λ (woken : Woken). Split forgotten (come_jobs apart time woken (vanished wakes (behind forgotten kept)).jobs)
-    (come_jobs apart time (vanished wakes kept).woken (vanished wakes kept).jobs)) (sym same)
-    (come_split apart time (vanished wakes kept).woken forgotten _ _ gone))
-    (running_split apart time forgotten _ _ gone))
-
-here_split : (forgotten : List Job) (leaving : Leaving) (on : Option Standing) (jobs : List Job) → KeepsLast jobs forgotten →
-    Split forgotten (elim on [ None ↦ jobs ++ forgotten | Some standing ↦ changed_last (ran (stretch_of leaving standing.since)) (jobs ++ forgotten) ])
-    (elim on [ None ↦ jobs | Some standing ↦ changed_last (ran (stretch_of leaving standing.since)) jobs ])
-here_split forgotten leaving None jobs last = kept_jobs forgotten jobs last
-here_split forgotten leaving (Some standing) jobs last =
+left_from_on : (forgotten : List Job) (pace : Pace) (wakes torn : Bool) (leaving : Leaving) (on : Option Standing) (jobs : List Job) (woken : Woken) →
+    KeepsLast jobs forgotten →
+    Split forgotten (left_from pace wakes torn leaving (record { jobs = jobs ++ forgotten; on = on; woken = woken }))
+    (left_from pace wakes torn leaving (record { jobs = jobs; on = on; woken = woken }))
+left_from_on forgotten pace wakes torn leaving None jobs woken last =
+    unseen_split forgotten pace wakes torn leaving (record { jobs = jobs; on = None; woken = woken }) last
+left_from_on forgotten pace wakes torn leaving (Some standing) jobs woken last =
     changed_split (ran (stretch_of leaving standing.since)) forgotten (jobs ++ forgotten) jobs (kept_jobs forgotten jobs last)
 
-left_from_split : (forgotten : List Job) (wakes : Bool) (leaving : Leaving) (kept : Known) → KeepsLast kept.jobs forgotten →
-    Split forgotten (left_from wakes leaving (behind forgotten kept)) (left_from wakes leaving kept)
-left_from_split forgotten wakes leaving kept last =
-    let all : Known = behind forgotten kept in
-    split_if forgotten (stands_on leaving.processor kept.on) (stands_on leaving.processor kept.on)
-    (elim kept.on [ None ↦ kept.jobs ++ forgotten | Some standing ↦ changed_last (ran (stretch_of leaving standing.since)) (kept.jobs ++ forgotten) ])
-    (elim kept.on [ None ↦ kept.jobs | Some standing ↦ changed_last (ran (stretch_of leaving standing.since)) kept.jobs ])
-    (if is_none kept.on && not leaving.has_switched && is_new (behind forgotten kept)
-    then changed_last (ran (stretch_of leaving leaving.whole_since)) (begun_by leaving.whole_since (kept.jobs ++ forgotten))
-    else changed_last missing (awake_jobs leaving.time (vanished wakes (behind forgotten kept)).jobs))
-    (if is_none kept.on && not leaving.has_switched && is_new kept
-    then changed_last (ran (stretch_of leaving leaving.whole_since)) (begun_by leaving.whole_since kept.jobs)
-    else changed_last missing (awake_jobs leaving.time (vanished wakes kept).jobs))
-    refl
-    (here_split forgotten leaving kept.on kept.jobs last)
-    (split_if forgotten _ _ _ _ _ _
-    (ap (λ (b : Bool). is_none kept.on && not leaving.has_switched && (not kept.woken.seen && b)) (switch_split kept.jobs forgotten last))
-    (changed_split (ran (stretch_of leaving leaving.whole_since)) forgotten _ _ (begun_split leaving.whole_since forgotten _ _ (kept_jobs forgotten kept.jobs last)))
-    (changed_split missing forgotten _ _ (awake_split leaving.time forgotten _ _ (jobs_of forgotten _ _ (vanished_behind forgotten wakes kept last)))))
+left_in_split : (forgotten : List Job) (state : State) (time : ℕ) (whole kept : List Job) → Split forgotten whole kept →
+    Split forgotten (left_in state time whole) (left_in state time kept)
+left_in_split forgotten states.GoesOn time whole kept split = split
+left_in_split forgotten states.Sleeps time whole kept split = changed_split (ended time) forgotten whole kept split
+left_in_split forgotten states.Exits time whole kept split = changed_split (exits time) forgotten whole kept split
+left_in_split forgotten states.Unknown time whole kept split = changed_split (lost_job time) forgotten whole kept split
 
-left_in_split : (forgotten : List Job) (wakes : Bool) (state : State) (time : ℕ) (whole kept : List Job) → Split forgotten whole kept →
-    Split forgotten (left_in wakes state time whole) (left_in wakes state time kept)
-left_in_split forgotten wakes states.GoesOn time whole kept split = split
-left_in_split forgotten wakes states.Sleeps time whole kept split = changed_split (ended time) forgotten whole kept split
-left_in_split forgotten wakes states.Exits time whole kept split = changed_split (exits time) forgotten whole kept split
-left_in_split forgotten wakes states.Unknown time whole kept split = changed_split (left_unseen time wakes) forgotten whole kept split
+leaves_behind : (forgotten : List Job) (pace : Pace) (wakes torn : Bool) (state : State) (leaving : Leaving) (kept : Known) → KeepsLast kept.jobs forgotten →
+    IsBehind forgotten (leaves pace wakes torn state leaving (behind forgotten kept)) (leaves pace wakes torn state leaving kept)
+leaves_behind forgotten pace wakes torn state leaving kept last =
+    of_jobs forgotten _ _ None _ (left_in_split forgotten state leaving.time _ _ (left_from_on forgotten pace wakes torn leaving kept.on kept.jobs kept.woken last))
 
-leaves_behind : (forgotten : List Job) (wakes : Bool) (state : State) (leaving : Leaving) (kept : Known) → KeepsLast kept.jobs forgotten →
-    IsBehind forgotten (leaves wakes state leaving (behind forgotten kept)) (leaves wakes state leaving kept)
-leaves_behind forgotten wakes state leaving kept last =
-    of_jobs forgotten _ _ None _ (left_in_split forgotten wakes state leaving.time _ _ (left_from_split forgotten wakes leaving kept last))
+-- Whether a job is open is seen of the last one, which is kept.
+pub open_behind : (jobs forgotten : List Job) → KeepsLast jobs forgotten → has_open_job (jobs ++ forgotten) ≡ has_open_job jobs
+open_behind [] forgotten none = ap has_open_job none
+open_behind (job ∷ jobs) forgotten last = refl
 
-wakes_behind : (forgotten : List Job) (apart : ℕ) (starts : Bool) (time : ℕ) (kept : Known) → KeepsLast kept.jobs forgotten →
-    IsBehind forgotten (wakes_up apart starts time (behind forgotten kept)) (wakes_up apart starts time kept)
-wakes_behind forgotten apart starts time kept last =
-    of_jobs forgotten _ _ kept.on _ (woken_split apart (woken_at starts time kept.woken.started) kept.woken.came forgotten _ _ (kept_jobs forgotten kept.jobs last))
+-- what is known of wake-ups behind one, where a job was open before it, or wasn't
+abbrev woken_by : Bool → ℕ → Bool → Woken → Woken
+woken_by starts time has_open woken =
+    record { came = true; started = if starts && (has_open || not woken.seen) then Some time else None; seen = woken.seen; ever = true }
+
+wakes_behind : (forgotten : List Job) (pace : Pace) (starts : Bool) (time : ℕ) (kept : Known) → KeepsLast kept.jobs forgotten →
+    IsBehind forgotten (wakes_up pace starts time (behind forgotten kept)) (wakes_up pace starts time kept)
+wakes_behind forgotten pace starts time kept last =
+    let begin : ℕ = woken_at starts time kept.woken.started in
+    let whole : List Job = woken_jobs pace begin kept.woken.came (kept.jobs ++ forgotten) in
+    let P : Bool → Type 0 = λ has_open.
+    IsBehind forgotten (record { jobs = whole; on = kept.on; woken = woken_by starts time has_open kept.woken }) (wakes_up pace starts time kept) in
+    subst P (sym (open_behind kept.jobs forgotten last))
+    (of_jobs forgotten _ _ kept.on _ (woken_split pace begin kept.woken.came forgotten _ _ (kept_jobs forgotten kept.jobs last)))
 
 speeds_on : (forgotten : List Job) (processor time : ℕ) (khz : Option ℕ) (on : Option Standing) (jobs : List Job) (woken : Woken) → KeepsLast jobs forgotten →
     IsBehind forgotten (speeds processor time khz (record { jobs = jobs ++ forgotten; on = on; woken = woken }))
@@ -271,68 +243,138 @@ speeds_on forgotten processor time khz (Some standing) jobs woken last =
     (changed_split (ran (record { processor = processor; from = standing.since; to = time; khz = khz })) forgotten _ _ (kept_jobs forgotten jobs last)))
     (record { is = refl; last = last })
 
-switch_behind : (forgotten : List Job) (apart : ℕ) (wakes left came : Bool) (state : State) (leaving : Leaving) (kept : Known) → KeepsLast kept.jobs forgotten →
-    IsBehind forgotten (after_switch apart wakes left came state leaving (behind forgotten kept)) (after_switch apart wakes left came state leaving kept)
-switch_behind forgotten apart wakes left came state leaving kept last =
-    let gone : IsBehind forgotten (left_if wakes left state leaving (behind forgotten kept)) (left_if wakes left state leaving kept) =
-    known_if forgotten left _ _ _ _ (leaves_behind forgotten wakes state leaving kept last) (passed_behind forgotten wakes leaving.processor kept last) in
-    known_if forgotten came _ _ _ _
-    (after (comes apart wakes leaving.processor leaving.time) forgotten (comes_behind forgotten apart wakes leaving.processor leaving.time) _ _ gone) gone
+pub lost_behind : (forgotten : List Job) (time : ℕ) (kept : Known) → KeepsLast kept.jobs forgotten →
+    IsBehind (map (lost_job time) forgotten) (loses time (behind forgotten kept)) (loses time kept)
+lost_behind forgotten time kept last = of_jobs (map (lost_job time) forgotten) _ _ None _ (lost_split time kept.jobs forgotten last)
+
+-- # Switches that are missing
+
+-- whether these switches are a loss to a thread's earlier jobs
+abbrev pub loses_jobs : Bool → Bool → ℕ → ℕ → Option Standing → Bool
+loses_jobs left came processor since None = true
+loses_jobs left came processor since (Some standing) = (left || came || (standing.processor == processor)) || nat_lt since standing.came
+
+abbrev pub forgotten_if : Bool → ℕ → List Job → List Job
+forgotten_if b since forgotten = if b then map (lost_job since) forgotten else forgotten
+
+elsewhere_behind : (forgotten : List Job) (since : ℕ) (before : Bool) (standing : Standing) (jobs : List Job) (woken : Woken) → KeepsLast jobs forgotten →
+    nat_lt since standing.came ≡ before →
+    IsBehind (forgotten_if before since forgotten)
+    (record { jobs = torn_jobs since standing.came (jobs ++ forgotten); on = Some standing; woken = woken })
+    (record { jobs = torn_jobs since standing.came jobs; on = Some standing; woken = woken })
+elsewhere_behind forgotten since true standing jobs woken last is =
+    of_jobs (map (lost_job since) forgotten) _ _ (Some standing) woken (rw is (begun_more standing.came false (map (lost_job since) forgotten) _ _ (lost_split since jobs forgotten last)))
+elsewhere_behind forgotten since false standing jobs woken last is =
+    of_jobs forgotten _ _ (Some standing) woken (rw is (kept_jobs forgotten jobs last))
+
+torn_on : (forgotten : List Job) (left came : Bool) (processor since : ℕ) (on : Option Standing) (jobs : List Job) (woken : Woken) → KeepsLast jobs forgotten →
+    IsBehind (forgotten_if (loses_jobs left came processor since on) since forgotten)
+    (torn left came processor since (record { jobs = jobs ++ forgotten; on = on; woken = woken }))
+    (torn left came processor since (record { jobs = jobs; on = on; woken = woken }))
+torn_on forgotten left came processor since None jobs woken last = lost_behind forgotten since (record { jobs = jobs; on = None; woken = woken }) last
+torn_on forgotten left came processor since (Some standing) jobs woken last = by (left || came || (standing.processor == processor)) refl
+  where
+    by : (b : Bool) → (left || came || (standing.processor == processor)) ≡ b →
+        IsBehind (forgotten_if (b || nat_lt since standing.came) since forgotten)
+        (if b then loses since (record { jobs = jobs ++ forgotten; on = Some standing; woken = woken })
+        else record { jobs = torn_jobs since standing.came (jobs ++ forgotten); on = Some standing; woken = woken })
+        (if b then loses since (record { jobs = jobs; on = Some standing; woken = woken })
+        else record { jobs = torn_jobs since standing.came jobs; on = Some standing; woken = woken })
+    by true is = lost_behind forgotten since (record { jobs = jobs; on = Some standing; woken = woken }) last
+    by false is = elsewhere_behind forgotten since (nat_lt since standing.came) standing jobs woken last refl
+
+-- the forgotten jobs behind them
+abbrev pub forgotten_torn : Bool → Bool → ℕ → Option ℕ → Option Standing → List Job → List Job
+forgotten_torn left came processor None on forgotten = forgotten
+forgotten_torn left came processor (Some since) on forgotten = forgotten_if (loses_jobs left came processor since on) since forgotten
+
+torn_behind : (forgotten : List Job) (left came : Bool) (processor : ℕ) (since : Option ℕ) (kept : Known) → KeepsLast kept.jobs forgotten →
+    IsBehind (forgotten_torn left came processor since kept.on forgotten)
+    (torn_if left came processor since (behind forgotten kept)) (torn_if left came processor since kept)
+torn_behind forgotten left came processor None kept last = record { is = refl; last = last }
+torn_behind forgotten left came processor (Some since) kept last = torn_on forgotten left came processor since kept.on kept.jobs kept.woken last
+
+switch_behind : (forgotten : List Job) (pace : Pace) (wakes left came : Bool) (state : State) (leaving : Leaving) (since : Option ℕ) (kept : Known) →
+    KeepsLast kept.jobs forgotten →
+    IsBehind (forgotten_torn left came leaving.processor since kept.on forgotten)
+    (after_switch pace wakes left came state leaving since (behind forgotten kept)) (after_switch pace wakes left came state leaving since kept)
+switch_behind forgotten pace wakes left came state leaving since kept last =
+    let next : List Job = forgotten_torn left came leaving.processor since kept.on forgotten in
+    let torn : IsBehind next (torn_if left came leaving.processor since (behind forgotten kept)) (torn_if left came leaving.processor since kept) =
+    torn_behind forgotten left came leaving.processor since kept last in
+    let gone : IsBehind next (left_if pace wakes (is_some since) left state leaving (torn_if left came leaving.processor since (behind forgotten kept)))
+    (left_if pace wakes (is_some since) left state leaving (torn_if left came leaving.processor since kept)) =
+    known_if next left _ _ _ _
+    (after (leaves pace wakes (is_some since) state leaving) next (leaves_behind next pace wakes (is_some since) state leaving) _ _ torn) torn in
+    known_if next came _ _ _ _
+    (after (comes pace wakes leaving.processor leaving.time) next (comes_behind next pace wakes leaving.processor leaving.time) _ _ gone) gone
 
 -- # Steps
 
--- the forgotten jobs after an event
-abbrev pub forgotten_after : Step → List Job → List Job
-forgotten_after (steps.Switch state leaving) forgotten = forgotten
-forgotten_after (steps.WakeUp time starts) forgotten = forgotten
-forgotten_after (steps.Speed processor time khz) forgotten = forgotten
-forgotten_after (steps.Loss since) forgotten = map (lost_earlier since) forgotten
-forgotten_after steps.Nothing forgotten = forgotten
-
-pub lost_behind : (forgotten : List Job) (time : ℕ) (kept : Known) → KeepsLast kept.jobs forgotten →
-    IsBehind (map (lost_earlier time) forgotten) (loses time (behind forgotten kept)) (loses time kept)
-lost_behind forgotten time kept last = of_jobs (map (lost_earlier time) forgotten) _ _ None _ (lost_split time kept.jobs forgotten last)
+-- the forgotten jobs after an event, by which their thread leaves, or comes, or another one does
+abbrev pub forgotten_after : Bool → Bool → Step → Option Standing → List Job → List Job
+forgotten_after first second (steps.Switch state leaving missing) on forgotten = forgotten_torn first second leaving.processor missing on forgotten
+forgotten_after first second (steps.WakeUp time starts) on forgotten = forgotten
+forgotten_after first second (steps.Speed processor time khz) on forgotten = forgotten
+forgotten_after first second (steps.Loss since) on forgotten = map (lost_job since) forgotten
+forgotten_after first second steps.Nothing on forgotten = forgotten
 
 -- What an event is to the whole it is to what is kept.
-pub stepped_behind : (forgotten : List Job) (apart : ℕ) (wakes first second : Bool) (step : Step) (kept : Known) → KeepsLast kept.jobs forgotten →
-    IsBehind (forgotten_after step forgotten) (stepped apart wakes first second step (behind forgotten kept)) (stepped apart wakes first second step kept)
-stepped_behind forgotten apart wakes first second (steps.Switch state leaving) kept last = switch_behind forgotten apart wakes first second state leaving kept last
-stepped_behind forgotten apart wakes first second (steps.WakeUp time starts) kept last =
-    known_if forgotten (first && wakes) _ _ _ _ (wakes_behind forgotten apart starts time kept last) (record { is = refl; last = last })
-stepped_behind forgotten apart wakes first second (steps.Speed processor time khz) kept last =
+pub stepped_behind : (forgotten : List Job) (pace : Pace) (wakes first second : Bool) (step : Step) (kept : Known) → KeepsLast kept.jobs forgotten →
+    IsBehind (forgotten_after first second step kept.on forgotten)
+    (stepped pace wakes first second step (behind forgotten kept)) (stepped pace wakes first second step kept)
+stepped_behind forgotten pace wakes first second (steps.Switch state leaving missing) kept last =
+    switch_behind forgotten pace wakes first second state leaving missing kept last
+stepped_behind forgotten pace wakes first second (steps.WakeUp time starts) kept last =
+    known_if forgotten (first && wakes) _ _ _ _ (wakes_behind forgotten pace starts time kept last) (record { is = refl; last = last })
+stepped_behind forgotten pace wakes first second (steps.Speed processor time khz) kept last =
     speeds_on forgotten processor time khz kept.on kept.jobs kept.woken last
-stepped_behind forgotten apart wakes first second (steps.Loss since) kept last = lost_behind forgotten since kept last
-stepped_behind forgotten apart wakes first second steps.Nothing kept last = record { is = refl; last = last }
+stepped_behind forgotten pace wakes first second (steps.Loss since) kept last = lost_behind forgotten since kept last
+stepped_behind forgotten pace wakes first second steps.Nothing kept last = record { is = refl; last = last }
 
 -- # What is kept of the forgotten jobs
 
-first_lost : (time : ℕ) (jobs : List Job) → began_before (map (lost_earlier time) jobs) ≡ began_before jobs
+first_lost : (time : ℕ) (jobs : List Job) → began_before (map (lost_job time) jobs) ≡ began_before jobs
 first_lost time [] = refl
 first_lost time (job ∷ jobs) = refl
 
 -- It stays where events were lost.
 pub lost_are_forgotten : (time boundary : ℕ) (forgotten : List Job) (count : ℕ) (before : Bool) → AreForgotten boundary forgotten count before →
-    AreForgotten boundary (map (lost_earlier time) forgotten) count before
+    AreForgotten boundary (map (lost_job time) forgotten) count before
 lost_are_forgotten time boundary forgotten count before are = record {
-  earlier = All-map (λ (job : Job). job.begin < boundary) (lost_earlier time) forgotten are.earlier;
-  as_many = are.as_many ∙ sym (length-map forgotten (lost_earlier time));
+  earlier = All-map (λ (job : Job). job.begin < boundary) (lost_job time) forgotten are.earlier;
+  as_many = are.as_many ∙ sym (length-map forgotten (lost_job time));
   before = are.before ∙ sym (first_lost time forgotten);
 }
 
-pub are_forgotten_after : (step : Step) (boundary : ℕ) (forgotten : List Job) (count : ℕ) (before : Bool) → AreForgotten boundary forgotten count before →
-    AreForgotten boundary (forgotten_after step forgotten) count before
-are_forgotten_after (steps.Switch state leaving) boundary forgotten count before are = are
-are_forgotten_after (steps.WakeUp time starts) boundary forgotten count before are = are
-are_forgotten_after (steps.Speed processor time khz) boundary forgotten count before are = are
-are_forgotten_after (steps.Loss since) boundary forgotten count before are = lost_are_forgotten since boundary forgotten count before are
-are_forgotten_after steps.Nothing boundary forgotten count before are = are
+torn_are_forgotten : (b : Bool) (time boundary : ℕ) (forgotten : List Job) (count : ℕ) (before : Bool) → AreForgotten boundary forgotten count before →
+    AreForgotten boundary (forgotten_if b time forgotten) count before
+torn_are_forgotten true time boundary forgotten count before are = lost_are_forgotten time boundary forgotten count before are
+torn_are_forgotten false time boundary forgotten count before are = are
 
-pub forgotten_reverse : (step : Step) (forgotten : List Job) → forgotten_after step (reverse forgotten) ≡ reverse (forgotten_after step forgotten)
-forgotten_reverse (steps.Switch state leaving) forgotten = refl
-forgotten_reverse (steps.WakeUp time starts) forgotten = refl
-forgotten_reverse (steps.Speed processor time khz) forgotten = refl
-forgotten_reverse (steps.Loss since) forgotten = map_reverse (lost_earlier since) forgotten
-forgotten_reverse steps.Nothing forgotten = refl
+pub are_forgotten_after : (first second : Bool) (step : Step) (on : Option Standing) (boundary : ℕ) (forgotten : List Job) (count : ℕ) (before : Bool) →
+    AreForgotten boundary forgotten count before → AreForgotten boundary (forgotten_after first second step on forgotten) count before
+are_forgotten_after first second (steps.Switch state leaving None) on boundary forgotten count before are = are
+are_forgotten_after first second (steps.Switch state leaving (Some since)) on boundary forgotten count before are =
+    torn_are_forgotten (loses_jobs first second leaving.processor since on) since boundary forgotten count before are
+are_forgotten_after first second (steps.WakeUp time starts) on boundary forgotten count before are = are
+are_forgotten_after first second (steps.Speed processor time khz) on boundary forgotten count before are = are
+are_forgotten_after first second (steps.Loss since) on boundary forgotten count before are = lost_are_forgotten since boundary forgotten count before are
+are_forgotten_after first second steps.Nothing on boundary forgotten count before are = are
+
+torn_reverse : (b : Bool) (since : ℕ) (forgotten : List Job) → forgotten_if b since (reverse forgotten) ≡ reverse (forgotten_if b since forgotten)
+torn_reverse true since forgotten = map_reverse (lost_job since) forgotten
+torn_reverse false since forgotten = refl
+
+pub forgotten_reverse : (first second : Bool) (step : Step) (on : Option Standing) (forgotten : List Job) →
+    forgotten_after first second step on (reverse forgotten) ≡ reverse (forgotten_after first second step on forgotten)
+forgotten_reverse first second (steps.Switch state leaving None) on forgotten = refl
+forgotten_reverse first second (steps.Switch state leaving (Some since)) on forgotten =
+    torn_reverse (loses_jobs first second leaving.processor since on) since forgotten
+forgotten_reverse first second (steps.WakeUp time starts) on forgotten = refl
+forgotten_reverse first second (steps.Speed processor time khz) on forgotten = refl
+forgotten_reverse first second (steps.Loss since) on forgotten = map_reverse (lost_job since) forgotten
+forgotten_reverse first second steps.Nothing on forgotten = refl
 
 pub forgotten_kept : (boundary : ℕ) (forgotten : List Job) (was now : ℕ) (before after : Bool) → now ≡ was → after ≡ before →
     AreForgotten boundary forgotten was before → AreForgotten boundary forgotten now after

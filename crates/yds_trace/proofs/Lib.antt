@@ -16,3 +16,4 @@ pub mod Tallying
 pub mod OnProcessor
 pub mod Later
 pub mod Spans
+pub mod Silent

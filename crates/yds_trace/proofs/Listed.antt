@@ -1,10 +1,9 @@
 -- What stands last in the code's lists stands first in the definitions'.
 use Rattle.base.proofs.Common.{Option, ◌≡◌, ℕ, zero, suc, ◌+◌, ◌<◌, ◌≤◌, List, [], ◌∷◌, ◌++◌, ◌∙◌, map, reverse, length, get_or, set, refl, ap, ap₂, sym, arith, map-append, reverse-append, get_or-set_same, get_or-set_other, get_or_default, drop_all, take_all, take, drop, append-nil, length-map, length-reverse, length-set, cases_lt, inl, inr, ◌≢◌, Bool, true, false, if◌then◌else◌, nat_lt, min, ltb-true}
 use Rattle.yds_trace.specs.declared.job.End.{End}
-use Rattle.yds_trace.specs.declared.job.End.TheVariants as ends
 use Rattle.yds_trace.specs.declared.job.Job.{Job as JobKept}
 use Rattle.yds_trace.specs.declared.job.Stretch.{Stretch}
-use Rattle.yds_trace.specs.Jobs.{Job, changed_last, open_until, lost_end, lost_before, lost_job, lost_earlier, lost_jobs}
+use Rattle.yds_trace.specs.Jobs.{Job, changed_last, lost_end, lost_job}
 use Rattle.yds_trace.specs.Views.{job_read, jobs_listed}
 
 pub reverse_push : (stretches : List Stretch) (stretch : Stretch) → reverse (stretches ++ stretch ∷ []) ≡ stretch ∷ reverse stretches
@@ -15,9 +14,9 @@ jobs_listed_push jobs job = rw (map-append, reverse-append)
 
 -- # Losses
 
--- a job behind which another one has begun, and of which events were lost after this time
+-- a job of which events were lost after this time
 abbrev pub lost_kept : ℕ → JobKept → JobKept
-lost_kept time job = record job { end = lost_before time job.slept job.end }
+lost_kept time job = record job { end = lost_end time job.slept job.end }
 
 -- the jobs below an index are those, and the others are as they were
 pub record LostBelow (time index : ℕ) (was now : List JobKept) : Type 0 where
@@ -29,7 +28,7 @@ pub lost_none : (time : ℕ) (was : List JobKept) → LostBelow time 0 was was
 lost_none time was = record { same_length = refl; below = λ k d within. absurd (omega arith); above = λ k d within. refl }
 
 pub lost_more : (time index : ℕ) (was now : List JobKept) (d : JobKept) (end : End) → index < length now → LostBelow time index was now →
-    end ≡ lost_before time (get_or now index d).slept (get_or now index d).end → LostBelow time (index + 1) was (set now index (record (get_or now index d) { end = end }))
+    end ≡ lost_end time (get_or now index d).slept (get_or now index d).end → LostBelow time (index + 1) was (set now index (record (get_or now index d) { end = end }))
 lost_more time index was now d end within before is =
     let after : JobKept = record (get_or now index d) { end = end } in
     let lost : after ≡ lost_kept time (get_or now index d) = ap (λ (e : End). record (get_or now index d) { end = e }) is in
@@ -57,7 +56,7 @@ kept_whole len xs ys same within =
 
 each_lost : (time : ℕ) (was now : List JobKept) → length now ≡ length was →
     ((k : ℕ) (d : JobKept) → k < length was → get_or now k d ≡ lost_kept time (get_or was k d)) →
-    map job_read now ≡ map (lost_earlier time) (map job_read was)
+    map job_read now ≡ map (lost_job time) (map job_read was)
 each_lost time [] [] same each = refl
 each_lost time [] (job ∷ now) same each = absurd (omega arith)
 each_lost time (job ∷ was) [] same each = absurd (omega arith)
@@ -74,31 +73,11 @@ map_reverse f (job ∷ jobs) =
     ∙ sym (reverse-append (f job ∷ []) (map f jobs))
 
 pub lost_all : (time index : ℕ) (was now : List JobKept) → length was ≤ index → LostBelow time index was now →
-    jobs_listed now ≡ map (lost_earlier time) (jobs_listed was)
+    jobs_listed now ≡ map (lost_job time) (jobs_listed was)
 lost_all time index was now whole lost =
-    ap reverse (each_lost time was now lost.same_length (λ k d within. lost.below k d (omega arith))) ∙ sym (map_reverse (lost_earlier time) (map job_read was))
+    ap reverse (each_lost time was now lost.same_length (λ k d within. lost.below k d (omega arith))) ∙ sym (map_reverse (lost_job time) (map job_read was))
 
 -- # The last job
-
-lost_twice : (time : ℕ) (slept : Option ℕ) (end : End) → lost_end time slept (lost_before time slept end) ≡ lost_end time slept end
-lost_twice time slept ends.Open = ap ends.Lost (omega arith)
-lost_twice time slept (ends.Ended end) = by (nat_lt time end) refl
-  where
-    by : (b : Bool) → nat_lt time end ≡ b → lost_end time slept (if b then ends.Lost (open_until time slept) else ends.Ended end) ≡ (if b then ends.Lost (open_until time slept) else ends.Ended end)
-    by true so = ap ends.Lost (omega arith)
-    by false so = rw so refl
-lost_twice time slept (ends.Unseen last goes_on) = by (nat_lt time last) refl
-  where
-    by : (b : Bool) → nat_lt time last ≡ b →
-        lost_end time slept (if b then ends.Lost (open_until time slept) else ends.Unseen last goes_on) ≡ ends.Lost (min (open_until time slept) last)
-    by true so = ap ends.Lost (omega (arith, ltb-true time last so))
-    by false so = refl
-lost_twice time slept (ends.Lost last) = ap ends.Lost (omega arith)
-
--- Of all jobs it is lost as of earlier ones, and then of the last one as of one that may be open.
-pub lost_last : (time : ℕ) (jobs : List Job) → changed_last (lost_job time) (map (lost_earlier time) jobs) ≡ lost_jobs time jobs
-lost_last time [] = refl
-lost_last time (job ∷ jobs) = ap (λ (end : End). record job { end = end } ∷ map (lost_earlier time) jobs) (lost_twice time job.slept job.end)
 
 changed_append : (change : Job → Job) (jobs more : List Job) → 1 ≤ length jobs → changed_last change (jobs ++ more) ≡ changed_last change jobs ++ more
 changed_append change [] more some = absurd (omega arith)

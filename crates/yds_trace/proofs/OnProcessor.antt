@@ -1,6 +1,6 @@
 -- What is known of the tasks doesn't depend on the processor that is asked for: only why a job isn't written as it stands does.
-use Rattle.base.proofs.Common.{◌≡◌, ◌∙◌, ℕ, suc, ◌+◌, ◌<◌, ◌≤◌, List, [], ◌∷◌, reverse, length, filter, Bool, true, false, not, ◌&&◌, ◌||◌, nat_lt, nat_le, if◌then◌else◌, Option, Some, None, is_some, All-weaker, refl, sym, ap, ap₂, arith, ltb-false, le-ltb}
-use Rattle.yds_kernel.specs.Parts.{or_else}
+use Rattle.base.proofs.Common.{◌≡◌, ◌∙◌, ℕ, zero, suc, ◌+◌, ◌<◌, ◌≤◌, List, [], ◌∷◌, reverse, length, filter, Bool, true, false, not, ◌&&◌, ◌||◌, nat_lt, nat_le, if◌then◌else◌, Option, Some, None, is_some, All-weaker, fun_ext, refl, sym, ap, ap₂, arith, ltb-false, le-ltb}
+use Rattle.yds_kernel.specs.Parts.{or_else, capped}
 use Rattle.yds_kernel.specs.Event.{Thread, Happening, Switch, WakeUp, Speed, Loss, Marker, Other, Event, Said, Stamped, Lost, Nothing}
 use Rattle.yds_trace.specs.declared.counted.Counted.{Counted}
 use Rattle.yds_trace.specs.declared.cut.Cut.{Cut}
@@ -12,16 +12,19 @@ use Rattle.yds_trace.specs.declared.lines.Lines.{Lines}
 use Rattle.yds_trace.specs.declared.others.Others.{Others as OthersKept}
 use Rattle.yds_trace.specs.declared.shown.Shown.{Shown}
 use Rattle.yds_trace.specs.declared.shown.ShownTask.{ShownTask}
-use Rattle.yds_trace.specs.Asked.{Task, Asked, on, task_at, task_of, is_number, is_before_to}
-use Rattle.yds_trace.specs.Past.{last_time, lost_since, is_loss, is_first_switch, up_to}
+use Rattle.yds_trace.specs.Asked.{Task, Asked, on, task_at, task_of, is_number, is_before_to, is_behind_from}
+use Rattle.yds_trace.specs.Past.{processor_count, last_time, lost_since, is_loss, is_first_switch, up_to, who_has}
 use Rattle.yds_kernel.specs.declared.loss.Since.TheVariants as since
-use Rattle.yds_trace.specs.Jobs.{Job, Known, stands_on, after_event, loses, known_after}
+use Rattle.yds_trace.specs.Jobs.{Job, Known, stands_on, leaving_at, missing_of, after_event, loses, all_known, known_after}
 use Rattle.yds_trace.specs.Late.{last_asked}
 use Rattle.yds_trace.specs.Document.{Judged, closed, jobs_of, began_before}
-use Rattle.yds_trace.specs.Faults.{pid_in, pid_before, is_another, is_another_thread, is_two_tasks, has_exited, is_over, has_number, is_renamed, thread_fault, first_thread_fault, state_fault, is_unwoken, needs_wake_ups, unwoken_fault, both_fault, happening_fault, is_torn, stamped_fault, place_fault, runs_on, touches, touched, length_fault, said_fault, numbered, first_fault, wakes_task, has_wake_up}
-use Rattle.yds_trace.specs.Parts.{last_begin, last_begin_of, is_over as job_is_over, is_settled, may_write, reaches_back, was_there_before, sleeps_before, woken_before, wakes_at, came_back, changes_parts}
-use Rattle.yds_trace.specs.Kept.{IsFollowed, AreOthers, IsCounted, IsLines}
-use Rattle.yds_trace.specs.Others.{Span, Spans, is_waiting, one_waits, any_waits, who_has, other_of, in_the_way, ended_at, spans_by, spans_after, spans_on, others_of, goes_behind, others_from}
+use Rattle.yds_trace.specs.Faults.{pid_in, pid_before, is_another, is_another_thread, is_two_tasks, has_exited, is_over, has_number, is_renamed, thread_fault, first_thread_fault, state_fault, is_unwoken, needs_wake_ups, unwoken_fault, both_fault, happening_fault, is_torn, stamped_fault, place_fault, runs_on, touches, touched, length_fault, said_fault, numbered, first_fault, lost_just_before, is_behind_loss, missing_in, missing_at, loss_fault, threads_fault}
+use Rattle.yds_trace.specs.Parts.{reaches_back, reaches_back_so, was_there_before, sleeps_before, woken_before, came_before, wakes_at, came_back, changes_parts}
+use Rattle.yds_trace.specs.Kept.{IsFollowed, AreOthers, IsCounted, IsTallied, IsLines}
+use Rattle.yds_trace.specs.Tally.{one_more, losses_before, silence_on, longer_silence, silence_below, tally_of}
+use Rattle.yds_trace.specs.declared.tally.Tally.{Tally}
+use Rattle.yds_trace.specs.declared.tally.Silence.{Silence}
+use Rattle.yds_trace.specs.Others.{Span, Spans, is_waiting, one_waits, any_waits, other_of, in_the_way, ended_at, spans_by, spans_after, spans_on, others_of, goes_behind, others_from}
 use Rattle.yds_trace.specs.Shown.{IsShownTask, IsShown}
 
 -- # Jobs
@@ -29,24 +32,17 @@ use Rattle.yds_trace.specs.Shown.{IsShownTask, IsShown}
 pub known_after_on : (asked : Asked) (processor number : ℕ) (past : List Said) → known_after (on processor asked) number past ≡ known_after asked number past
 known_after_on asked processor number [] = refl
 known_after_on asked processor number (Stamped event ∷ past) =
-    ap (after_event asked number past event event.happening) (known_after_on asked processor number past)
+    ap (after_event asked number past event event.happening) (fun_ext (λ (other : ℕ). known_after_on asked processor other past))
 known_after_on asked processor number (Lost other reach ∷ past) = ap (loses _) (known_after_on asked processor number past)
 known_after_on asked processor number (Nothing ∷ past) = known_after_on asked processor number past
+
+-- the same of all tasks
+pub all_known_on : (asked : Asked) (processor : ℕ) (past : List Said) → all_known (on processor asked) past ≡ all_known asked past
+all_known_on asked processor past = fun_ext (λ (number : ℕ). known_after_on asked processor number past)
 
 pub jobs_of_on : (asked : Asked) (processor : ℕ) (past : List Said) (number : ℕ) → jobs_of (on processor asked) past number ≡ jobs_of asked past number
 jobs_of_on asked processor past number =
     ap (λ (known : Known). reverse (closed asked past known)) (known_after_on asked processor number (up_to asked.to past))
-
-pub last_begin_of_on : (asked : Asked) (processor : ℕ) (past : List Said) (number : ℕ) →
-    last_begin_of (on processor asked) past number ≡ last_begin_of asked past number
-last_begin_of_on asked processor past number =
-    ap (λ (known : Known). last_begin known.jobs) (known_after_on asked processor number (up_to asked.to past))
-
-pub is_settled_on : (asked : Asked) (processor : ℕ) (past : List Said) (judged : Judged) →
-    is_settled (on processor asked) past judged ≡ is_settled asked past judged
-is_settled_on asked processor past judged =
-    ap (λ (begin : ℕ). job_is_over (last_asked asked past) (nat_lt judged.job.begin begin) judged.job.end
-    && nat_le (judged.job.begin + (task_at asked judged.task).apart) (last_time past)) (last_begin_of_on asked processor past judged.task)
 
 -- # Who was in the way
 
@@ -115,16 +111,6 @@ pid_before_on asked processor number (Stamped event ∷ past) =
     ap (λ (pid : Option ℕ). or_else (pid_in asked number event.happening) pid) (pid_before_on asked processor number past)
 pid_before_on asked processor number (Lost other reach ∷ past) = pid_before_on asked processor number past
 pid_before_on asked processor number (Nothing ∷ past) = pid_before_on asked processor number past
-
-pub has_wake_up_on : (asked : Asked) (processor : ℕ) (past : List Said) → has_wake_up (on processor asked) past ≡ has_wake_up asked past
-has_wake_up_on asked processor [] = refl
-has_wake_up_on asked processor (Stamped event ∷ past) =
-    ap (λ (woken : Bool). wakes_task asked event.happening || woken) (has_wake_up_on asked processor past)
-has_wake_up_on asked processor (Lost other reach ∷ past) = has_wake_up_on asked processor past
-has_wake_up_on asked processor (Nothing ∷ past) = has_wake_up_on asked processor past
-
-pub may_write_on : (asked : Asked) (processor : ℕ) (past : List Said) → may_write (on processor asked) past ≡ may_write asked past
-may_write_on asked processor past = ap (λ (woken : Bool). asked.begin_at_run || woken) (has_wake_up_on asked processor past)
 
 runs_on_on : (asked : Asked) (processor : ℕ) (past : List Said) (there number : ℕ) (tasks : List Task) →
     runs_on (on processor asked) past there number tasks ≡ runs_on asked past there number tasks
@@ -227,13 +213,63 @@ happening_fault_on asked processor counting Loss = refl
 happening_fault_on asked processor counting Marker = refl
 happening_fault_on asked processor counting Other = refl
 
+missing_in_on : (asked : Asked) (processor : ℕ) (counting : List Said) (event : Event) (happening : Happening) →
+    missing_in (on processor asked) counting event happening ≡ missing_in asked counting event happening
+missing_in_on asked processor counting event (Switch previous state next) =
+    ap (λ (known : ℕ → Known). missing_of asked previous next (leaving_at asked counting event previous) known 0 asked.tasks) (all_known_on asked processor counting)
+missing_in_on asked processor counting event (WakeUp thread starts) = refl
+missing_in_on asked processor counting event (Speed there khz) = refl
+missing_in_on asked processor counting event Loss = refl
+missing_in_on asked processor counting event Marker = refl
+missing_in_on asked processor counting event Other = refl
+
+pub missing_at_on : (asked : Asked) (processor : ℕ) (past : List Said) (event : Event) → missing_at (on processor asked) past event ≡ missing_at asked past event
+missing_at_on asked processor past event =
+    ap {B = Option ℕ} (λ (missing : Option ℕ). if is_before_to asked.to event.time then missing else None)
+    (missing_in_on asked processor (up_to asked.to past) event event.happening)
+
+loss_fault_on : (asked : Asked) (processor : ℕ) (past : List Said) (event : Event) → loss_fault (on processor asked) past event ≡ loss_fault asked past event
+loss_fault_on asked processor past event =
+    ap {B = Option Cause} (λ (missing : Option ℕ). if is_torn asked past event then Some causes.EventsLost
+    else (if not asked.cut_losses && (is_some missing && is_behind_from asked.from event.time) then Some causes.LineMissing else None))
+    (missing_at_on asked processor past event)
+
 stamped_fault_on : (asked : Asked) (processor : ℕ) (past : List Said) (event : Event) → stamped_fault (on processor asked) past event ≡ stamped_fault asked past event
 stamped_fault_on asked processor past event =
     ap₂ {C = Option Cause} (λ (before stayed : Option Cause). or_else (place_fault event) (or_else
     (if is_before_to asked.to event.time then (if nat_lt event.time (last_time past) then Some causes.TimeGoesBack else before)
     else (if is_first_switch event (up_to asked.to past) then stayed else None))
-    (if is_torn asked past event then Some causes.EventsLost else None)))
+    (loss_fault (on processor asked) past event)))
     (happening_fault_on asked processor (up_to asked.to past) event.happening) (first_thread_fault_on asked processor (up_to asked.to past) event.happening)
+    ∙ ap (λ (loss : Option Cause). or_else (place_fault event) (or_else (threads_fault asked past event) loss)) (loss_fault_on asked processor past event)
+
+-- # What is counted
+
+losses_before_on : (asked : Asked) (processor : ℕ) (past : List Said) → losses_before (on processor asked) past ≡ losses_before asked past
+losses_before_on asked processor [] = refl
+losses_before_on asked processor (Stamped event ∷ past) =
+    ap₂ (λ (missing : Option ℕ) (n : ℕ). one_more (is_behind_loss asked.from asked.to past event || (is_some missing && is_behind_from asked.from event.time)) n)
+    (missing_at_on asked processor past event) (losses_before_on asked processor past)
+losses_before_on asked processor (Lost other reach ∷ past) = losses_before_on asked processor past
+losses_before_on asked processor (Nothing ∷ past) = losses_before_on asked processor past
+
+silence_below_on : (asked : Asked) (processor : ℕ) (past : List Said) (n : ℕ) → silence_below (on processor asked) past n ≡ silence_below asked past n
+silence_below_on asked processor past zero = refl
+silence_below_on asked processor past (suc n) =
+    ap (λ (before : Silence). longer_silence before (silence_on asked past n)) (silence_below_on asked processor past n)
+
+tally_on : (asked : Asked) (processor : ℕ) (past : List Said) → tally_of (on processor asked) past ≡ tally_of asked past
+tally_on asked processor past =
+    ap₂ (λ (losses : ℕ) (silence : Silence). record (tally_of asked past) { losses = capped (one_more (lost_just_before asked.to past) losses); silence = silence })
+    (losses_before_on asked processor past) (silence_below_on asked processor past (processor_count past))
+
+tallied_on : (asked : Asked) (processor : ℕ) (past : List Said) (tally : Tally) → IsTallied asked past tally → IsTallied (on processor asked) past tally
+tallied_on asked processor past tally is = record {
+  losses = is.losses ∙ ap capped (sym (losses_before_on asked processor past));
+  missing = is.missing;
+  markers = is.markers;
+  pause = is.pause;
+}
 
 length_fault_on : (asked : Asked) (processor : ℕ) (lines : List Said) → length_fault (on processor asked) lines ≡ length_fault asked lines
 length_fault_on asked processor lines =
@@ -261,7 +297,8 @@ so_on asked processor past test (Some number) = ap test (known_after_on asked pr
 came_back_on : (asked : Asked) (processor : ℕ) (past : List Said) (cut : Cut) (event : Event) (happening : Happening) →
     came_back (on processor asked) past cut event happening ≡ came_back asked past cut event happening
 came_back_on asked processor past cut event (Switch previous state next) =
-    ap (λ (so : Bool). wakes_at asked event && so) (so_on asked processor past (sleeps_before cut.boundary) (task_of asked.tasks next))
+    ap₂ (λ (back so : Bool). wakes_at asked event && (back || so)) (so_on asked processor past (came_before cut.boundary) (task_of asked.tasks previous))
+    (so_on asked processor past (sleeps_before cut.boundary) (task_of asked.tasks next))
 came_back_on asked processor past cut event (WakeUp thread starts) =
     ap (λ (so : Bool). wakes_at asked event && (not starts && so)) (so_on asked processor past (woken_before cut.boundary) (task_of asked.tasks thread))
 came_back_on asked processor past cut event (Speed there khz) = refl
@@ -272,8 +309,9 @@ came_back_on asked processor past cut event Other = refl
 pub changes_parts_on : (asked : Asked) (processor : ℕ) (past : List Said) (cut : Cut) (said : Said) →
     changes_parts (on processor asked) past cut said ≡ changes_parts asked past cut said
 changes_parts_on asked processor past cut (Stamped event) =
-    ap (λ (back : Bool). (is_loss event.happening && reaches_back cut (lost_since event.processor since.ItsLastLine past))
-    || (was_there_before asked past cut event event.happening || back)) (came_back_on asked processor past cut event event.happening)
+    ap₂ (λ (missing : Option ℕ) (back : Bool). (is_loss event.happening && reaches_back cut (lost_since event.processor since.ItsLastLine past))
+    || (reaches_back_so cut missing || (was_there_before asked past cut event event.happening || back)))
+    (missing_at_on asked processor past event) (came_back_on asked processor past cut event event.happening)
 changes_parts_on asked processor past cut (Lost other reach) = refl
 changes_parts_on asked processor past cut Nothing = refl
 
@@ -304,6 +342,7 @@ others_kept_on asked processor counting boundary kept (Some there) is = record {
 pub counted_on : (asked : Asked) (processor : ℕ) (counting : List Said) (counted : Counted) → IsCounted asked counting counted → IsCounted (on processor asked) counting counted
 counted_on asked processor counting counted is = record {
   times = is.times;
+  came = is.came;
   as_many = is.as_many;
   tasks = λ number default within. followed_on asked processor counting counted.boundary number _ (is.tasks number default within);
   others = others_kept_on asked processor counting counted.boundary counted.others asked.others is.others;
@@ -315,10 +354,9 @@ pub lines_on : (asked : Asked) (processor : ℕ) (past : List Said) (lines : Lin
 lines_on asked processor past lines is = record {
   times = is.times;
   lost = is.lost;
-  woken = is.woken ∙ sym (has_wake_up_on asked processor past);
   as_many = is.as_many;
   came = is.came;
-  tallied = is.tallied;
+  tallied = tallied_on asked processor past lines.tallied is.tallied;
   seen = λ number within. is.seen number within ∙ ap is_some (sym (pid_before_on asked processor number past));
 }
 
@@ -331,7 +369,6 @@ shown_task_on asked processor past boundary later number shown within is = recor
   earlier = All-weaker (λ (job : Job). job.begin < boundary) (λ (job : Job). job.begin < later) (λ job early. omega (arith, early, within)) is.forgotten is.earlier;
   as_many = is.as_many;
   before = is.before ∙ ap began_before (sym (jobs_of_on asked processor past number));
-  last = is.last ∙ sym (last_begin_of_on asked processor past number);
 }
 
 -- What is shown serves for another processor, and for a later boundary.
@@ -343,5 +380,5 @@ shown_on asked processor past boundary later shown within is = record {
   others = others_shown_on asked processor past boundary later _ within is.others;
   first = is.first;
   last = is.last;
-  tally = is.tally;
+  tally = is.tally ∙ sym (tally_on asked processor past);
 }

@@ -247,7 +247,6 @@ shown_shared asked past boundary shown alone is = record {
         earlier = task.earlier;
         as_many = task.as_many;
         before = task.before;
-        last = task.last;
       };
   others = is.others;
   first = is.first;
@@ -267,7 +266,6 @@ share_task asked past boundary number shown own shares is = record {
       (λ job early. omega (arith, early, share_begin asked job)) is.forgotten is.earlier);
   as_many = shares.forgotten ∙ is.as_many ∙ sym (length-map is.forgotten (share_of asked));
   before = shares.before ∙ is.before;
-  last = shares.last ∙ is.last;
 }
 
 -- Each task has its shares, and the spans are the same.

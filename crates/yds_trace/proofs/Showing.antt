@@ -12,7 +12,6 @@ use Rattle.yds_trace.specs.Past.{up_to, speed_after}
 use Rattle.yds_trace.specs.Jobs.{Job, Known, changed_last, ran}
 use Rattle.yds_trace.specs.Late.{last_asked}
 use Rattle.yds_trace.specs.Document.{closed, jobs_of, began_before}
-use Rattle.yds_trace.specs.Parts.{last_begin}
 use Rattle.yds_trace.specs.Passing.{closed_at}
 use Rattle.yds_trace.specs.Following.{Shows}
 use Rattle.yds_trace.specs.Kept.{KeepsLast, AreForgotten, IsFollowed}
@@ -71,12 +70,6 @@ first_of_all boundary [] jobs others count before are same = let none : count �
 first_of_all boundary (first ∷ forgotten) jobs others zero before are same = absurd (omega (arith, are.as_many))
 first_of_all boundary (first ∷ forgotten) jobs others (suc count) before are same = rw (suc_not_zero count) are.before
 
--- # The last job
-
-last_behind : (jobs forgotten : List Job) → KeepsLast jobs forgotten → last_begin (jobs ++ forgotten) ≡ last_begin jobs
-last_behind [] forgotten none = ap last_begin none
-last_behind (job ∷ jobs) forgotten last = refl
-
 -- # A task
 
 pub task_shown : (asked : Asked) (past : List Said) (kept boundary number until : ℕ) (followed : Followed) (shown : ShownTask) →
@@ -98,9 +91,6 @@ task_shown asked past kept boundary number until followed shown within is until_
           (sym (first_closed (last_asked asked past) asked.start (up_to asked.to past) followed.known.on (jobs_listed followed.known.jobs.items) followed.known.woken
           ∙ ap began_before (reverse-reverse (map job_read followed.known.jobs.items))))
           ∙ ap began_before (sym all);
-      last = shows.last
-          ∙ sym (last_behind (jobs_listed followed.known.jobs.items) (reverse is.forgotten) is.last)
-          ∙ ap (λ (known : Known). last_begin known.jobs) is.known;
     }
 
 -- what is at hand where a list has an item

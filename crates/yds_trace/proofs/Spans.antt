@@ -7,9 +7,9 @@ use Rattle.yds_kernel.specs.Event.{Thread, Event, Said, Stamped, Lost, Nothing}
 use Rattle.yds_trace.specs.declared.others.Others.{Others as OthersKept}
 use Rattle.yds_trace.specs.declared.others.Span.{Span as SpanKept}
 use Rattle.yds_trace.specs.Asked.{Asked}
-use Rattle.yds_trace.specs.Past.{last_time, up_to}
+use Rattle.yds_trace.specs.Past.{last_time, up_to, who_has}
 use Rattle.yds_trace.specs.Late.{last_asked}
-use Rattle.yds_trace.specs.Others.{Span, Spans, Going, who_has, any_waits, other_of, in_the_way, shortened, is_same, span_until, ended_at, going_from, spans_by, spans_after, spans_on, others_of, goes_behind, others_from}
+use Rattle.yds_trace.specs.Others.{Span, Spans, Going, any_waits, other_of, in_the_way, shortened, is_same, span_until, ended_at, going_from, spans_by, spans_after, spans_on, others_of, goes_behind, others_from}
 use Rattle.yds_trace.specs.Following.{spans_kept, spans_at}
 use Rattle.yds_trace.specs.Kept.{AreOthers, AreOthersOf}
 use Rattle.yds_trace.specs.Views.{another_read, going_read, span_read}

@@ -1,11 +1,11 @@
 -- What is counted, line by line: who came to a processor, and the longest time without a line.
 use Rattle.base.proofs.Common.{◌≡◌, ℕ, ◌<◌, ◌≤◌, ◌==◌, ◌&&◌, List, Bool, true, false, nat_lt, ltb-true, ltb-false, if◌then◌else◌, Option, Some, refl, arith}
 use Rattle.yds_kernel.specs.Event.{Thread, Happening, Switch, WakeUp, Speed, Loss, Marker, Other, Event}
+use Rattle.yds_trace.specs.Past.{has_it}
 use Rattle.yds_trace.specs.declared.step.Whose.{Whose}
 use Rattle.yds_trace.specs.declared.tally.Pause.{Pause}
 use Rattle.yds_trace.specs.Asked.{Task}
 use Rattle.yds_trace.specs.Kept.{unlisted, came_by}
-use Rattle.yds_trace.specs.Others.{has_it}
 use Rattle.yds_trace.specs.Steps.{whose, second_in}
 use Rattle.yds_trace.specs.Tally.{longer}
 

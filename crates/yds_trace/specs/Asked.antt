@@ -3,6 +3,7 @@ use Rattle.std.specs.Prelude.{ℕ, ◌≤◌, List, [], ◌∷◌, Bool, true, f
 use Rattle.std.specs.List.{slice_index_or, All}
 use Rattle.std.specs.Str.{bytes_eq}
 use Rattle.yds_trace.specs.declared.limits.TheConstants.{MAX_DEADLINE}
+use Rattle.yds_trace.specs.declared.job.Pace.{Pace}
 use Rattle.yds_kernel.specs.Parts.{or_else}
 use Rattle.yds_kernel.specs.Event.{Thread}
 
@@ -20,9 +21,11 @@ pub record Task : Type 0 where
   pub deadline : ℕ
   -- A wake-up that comes less than so long after a job's begin goes on with that job; with 0 none does.
   pub apart : ℕ
+  -- A job is due no later than so long behind the one before it; with 0 it is due by its own begin alone.
+  pub period : ℕ
 
 abbrev pub no_task : Task
-no_task = record { label = []; thread = Numbered 0; deadline = 0; apart = 0 }
+no_task = record { label = []; thread = Numbered 0; deadline = 0; apart = 0; period = 0 }
 
 -- a processor's speed before its first change, in kilohertz
 pub record StartSpeed : Type 0 where
@@ -31,6 +34,8 @@ pub record StartSpeed : Type 0 where
 
 -- the speeds before the first change
 pub data Start : Type 0 where
+  -- each processor has this one throughout: no line tells another, and what was lost has no change
+  Fixed : (khz : ℕ) → Start
   -- each processor has this one
   Same : (khz : ℕ) → Start
   -- these have theirs, and of no other it is known
@@ -42,8 +47,15 @@ start_in (speed ∷ speeds) processor = if speed.processor == processor then Som
 
 -- The speed of a processor before its first change, where it is known.
 abbrev pub start_of : Start → ℕ → Option ℕ
+start_of (Fixed khz) processor = Some khz
 start_of (Same khz) processor = Some khz
 start_of (Listed speeds) processor = start_in speeds processor
+
+-- The speed of each processor where events were lost, as a change may be among them.
+abbrev pub lost_speed : Start → Option ℕ
+lost_speed (Fixed khz) = Some khz
+lost_speed (Same khz) = None
+lost_speed (Listed speeds) = None
 
 pub record Asked : Type 0 where
   pub tasks : List Task
@@ -83,6 +95,10 @@ is_numbered pid (Numbered number) = number == pid
 abbrev pub is_named : List ℕ → Which → Bool
 is_named name (Named wanted) = bytes_eq wanted name
 is_named name (Numbered number) = false
+
+-- Which wake-ups begin a job of a task, and when that is due: what its APART and its period say.
+abbrev pub pace_of : Task → Pace
+pace_of task = record { apart = task.apart; period = task.period }
 
 -- The number of the task that a thread is: the one with its number, or else the one with its name.
 abbrev pub task_of : List Task → Thread → Option ℕ

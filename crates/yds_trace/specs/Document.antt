@@ -10,7 +10,7 @@ use Rattle.yds_trace.specs.declared.reason.Reason.TheVariants as reasons
 use Rattle.yds_trace.specs.Asked.{Task, Asked, task_at, is_after_from}
 use Rattle.yds_trace.specs.Past.{first_time, last_time, up_to, speed_after}
 use Rattle.yds_trace.specs.Jobs.{Job, Known, changed_last, ran, known_after}
-use Rattle.yds_trace.specs.Late.{last_asked, due, is_open, lateness}
+use Rattle.yds_trace.specs.Late.{last_asked, due, is_open, lateness, is_unsure}
 use Rattle.yds_trace.specs.WrittenTime.{Units, Run, written_time, runs_of, work_of_runs, runs_end}
 
 -- # The jobs of a task at the end of what is asked for
@@ -60,8 +60,9 @@ reason_of asked past task job =
     else (if is_open job.end && is_none (lateness asked task (last_asked asked past) job)
     then Some (if reaches_to asked past then reasons.AfterTo else reasons.NotEnded)
     else (if not job.begin_known then Some reasons.BeginUnseen
+    else (if nat_lt (due task job) (job.begin + asked.unit) then Some reasons.DueBefore
     else (if list_any (is_elsewhere asked.processor) job.stretches then Some reasons.Moved
-    else (if list_any is_of_unknown_speed job.stretches then Some reasons.SpeedUnknown else None))))))
+    else (if list_any is_of_unknown_speed job.stretches then Some reasons.SpeedUnknown else None)))))))
 
 -- # Jobs that moved
 
@@ -105,6 +106,8 @@ pub record Judged : Type 0 where
   -- nanoseconds
   pub due : ℕ
   pub late : Option ℕ
+  -- the lines don't tell whether it is late
+  pub unsure : Bool
   pub reason : Option Reason
 
 abbrev pub judged : Asked → List Said → ℕ → Bool → ℕ × Job → Judged
@@ -115,6 +118,7 @@ judged asked past number before numbered = record {
   job = numbered.1;
   due = due (task_at asked number) numbered.1;
   late = lateness asked (task_at asked number) (last_asked asked past) numbered.1;
+  unsure = is_unsure asked (task_at asked number) (first_time 0 past) (last_asked asked past) numbered.1;
   reason = reason_of asked past (task_at asked number) numbered.1;
 }
 

@@ -8,10 +8,10 @@ use Rattle.yds_kernel.specs.Event.{Thread, Happening, Switch, WakeUp, Speed, Eve
 use Rattle.yds_trace.specs.declared.limits.TheConstants.{MAX_PROCESSOR, MAX_TIME, MAX_TOUCHES}
 use Rattle.yds_trace.specs.declared.fault.Cause.{Cause}
 use Rattle.yds_trace.specs.declared.fault.Cause.TheVariants as causes
-use Rattle.yds_trace.specs.Asked.{Task, Asked, task_of, is_number, is_numbered, is_named, is_before_to, is_within_to, is_behind_from}
+use Rattle.yds_trace.specs.Asked.{Task, Start, Fixed, Same, Listed, Asked, task_of, is_number, is_numbered, is_named, is_before_to, is_within_to, is_behind_from}
 use Rattle.yds_trace.specs.Past.{last_time, lost_since, is_loss, is_first_switch, up_to}
 use Rattle.yds_trace.specs.declared.job.End.TheVariants as ends
-use Rattle.yds_trace.specs.Jobs.{Job, Known, stands_on, known_after}
+use Rattle.yds_trace.specs.Jobs.{Job, Known, stands_on, leaving_at, missing_of, all_known, known_after}
 use Rattle.yds_trace.specs.Others.{any_waits}
 
 -- # Which thread a task is
@@ -100,19 +100,18 @@ state_fault asked thread state = if is_some (task_of asked.tasks thread) && is_u
 
 -- ---- wake-ups that aren't recorded
 
--- The last job has ended, and it went on behind a sleep before.
-abbrev pub slept_before : List Job → Bool
-slept_before [] = false
-slept_before (job ∷ jobs) = elim job.end [
+-- The last job has ended, and it went on behind a sleep before, or no wake-up was ever seen.
+abbrev pub slept_before : Bool → List Job → Bool
+slept_before ever [] = false
+slept_before ever (job ∷ jobs) = elim job.end [
   | ends.Open ↦ false
-  | ends.Ended end ↦ is_some job.slept
-  | ends.Unseen last goes_on ↦ false
+  | ends.Ended end ↦ not (ever && is_none job.slept)
   | ends.Lost last ↦ false
 ]
 
--- Its thread left to sleep twice in one job, and no wake-up ended either sleep.
+-- Its thread left to sleep, and no wake-up ended that: for the second time in one job, or none of it was ever seen.
 abbrev pub is_unwoken : Known → Bool
-is_unwoken known = known.woken.seen && is_none known.woken.started && slept_before known.jobs
+is_unwoken known = known.woken.seen && is_none known.woken.started && slept_before known.woken.ever known.jobs
 
 -- Jobs begin at wake-ups, and the trace is to be whole.
 abbrev pub needs_wake_ups : Asked → Bool
@@ -137,13 +136,30 @@ lost_just_before to (Nothing ∷ past) = lost_just_before to past
 abbrev pub tells_loss : Option ℕ → Event → List Said → Bool
 tells_loss to event past = is_loss event.happening && is_within_to to (lost_since event.processor since.ItsLastLine past)
 
--- A place where events were lost, within what is asked for: an event behind `from` before which events are said to be lost since a time before `to`.
+-- A place where events are said to be lost, within what is asked for: an event behind `from` before which they were lost since a time before `to`.
 abbrev pub is_behind_loss : Option ℕ → Option ℕ → List Said → Event → Bool
 is_behind_loss from to past event = (lost_just_before to past || tells_loss to event past) && is_behind_from from event.time
 
 -- such a place, where the trace is to be whole
 abbrev pub is_torn : Asked → List Said → Event → Bool
 is_torn asked past event = not asked.cut_losses && is_behind_loss asked.from asked.to past event
+
+-- ---- switches that are missing
+
+-- since when switches of tasks are missing before an event, behind the lines that count, if some are
+abbrev pub missing_in : Asked → List Said → Event → Happening → Option ℕ
+missing_in asked counting event (Switch previous state next) =
+    missing_of asked previous next (leaving_at asked counting event previous) (all_known asked counting) 0 asked.tasks
+missing_in asked counting event _ = None
+
+-- the same of an event that counts
+abbrev pub missing_at : Asked → List Said → Event → Option ℕ
+missing_at asked past event =
+    if is_before_to asked.to event.time then missing_in asked (up_to asked.to past) event event.happening else None
+
+-- A place where switches of tasks are missing, within what is asked for.
+abbrev pub is_behind_missing : Asked → List Said → Event → Bool
+is_behind_missing asked past event = is_some (missing_at asked past event) && is_behind_from asked.from event.time
 
 -- # How many lines tell of the tasks
 
@@ -176,6 +192,12 @@ abbrev pub speed_fault : Happening → Option Cause
 speed_fault (Speed processor khz) = processor_fault processor
 speed_fault _ = None
 
+-- it tells another speed than the one that each processor is said to have throughout
+abbrev pub is_other_speed : Start → ℕ → Bool
+is_other_speed (Fixed fixed) khz = not (fixed == khz)
+is_other_speed (Same khz) other = false
+is_other_speed (Listed speeds) khz = false
+
 abbrev pub processors_fault : Event → Option Cause
 processors_fault event = or_else (processor_fault event.processor) (speed_fault event.happening)
 
@@ -197,6 +219,7 @@ happening_fault asked counting (Switch previous state next) =
     (or_else (state_fault asked previous state)
     (or_else (thread_fault asked counting next) (or_else (both_fault asked previous next) (unwoken_fault asked counting next))))
 happening_fault asked counting (WakeUp thread starts) = thread_fault asked counting thread
+happening_fault asked counting (Speed processor khz) = if is_other_speed asked.start khz then Some causes.SpeedChanged else None
 happening_fault asked counting _ = None
 
 -- what an event not after `to` is refused for
@@ -214,10 +237,15 @@ abbrev pub threads_fault : Asked → List Said → Event → Option Cause
 threads_fault asked past event =
     if is_before_to asked.to event.time then event_fault asked past event else stayed_fault asked past event
 
+-- what an event is refused for where the trace is to be whole, and isn't
+abbrev pub loss_fault : Asked → List Said → Event → Option Cause
+loss_fault asked past event =
+    if is_torn asked past event then Some causes.EventsLost
+    else (if not asked.cut_losses && is_behind_missing asked past event then Some causes.LineMissing else None)
+
 -- what an event is refused for by the lines before it
 abbrev pub behind_fault : Asked → List Said → Event → Option Cause
-behind_fault asked past event =
-    or_else (threads_fault asked past event) (if is_torn asked past event then Some causes.EventsLost else None)
+behind_fault asked past event = or_else (threads_fault asked past event) (loss_fault asked past event)
 
 abbrev pub stamped_fault : Asked → List Said → Event → Option Cause
 stamped_fault asked past event = or_else (place_fault event) (behind_fault asked past event)
@@ -262,17 +290,6 @@ unseen_from asked past number [] = None
 unseen_from asked past number (task ∷ tasks) =
     if is_none (pid_before asked number past) then Some number else unseen_from asked past (number + 1) tasks
 
-abbrev pub wakes_task : Asked → Happening → Bool
-wakes_task asked (WakeUp thread starts) = is_some (task_of asked.tasks thread)
-wakes_task asked _ = false
-
--- a wake-up of a task is among the lines
-abbrev pub has_wake_up : Asked → List Said → Bool
-has_wake_up asked [] = false
-has_wake_up asked (Stamped event ∷ past) = wakes_task asked event.happening || has_wake_up asked past
-has_wake_up asked (Lost processor reach ∷ past) = has_wake_up asked past
-has_wake_up asked (Nothing ∷ past) = has_wake_up asked past
-
 abbrev pub unseen_fault : Option ℕ → Option Cause
 unseen_fault None = None
 unseen_fault (Some number) = Some (causes.Unseen number)
@@ -282,8 +299,7 @@ abbrev pub whole_fault : Asked → List Said → Option Cause
 whole_fault asked past =
     if not (has_stamp past) then Some causes.NoLine
     else (if not asked.cut_losses && lost_just_before asked.to past then Some causes.EventsLost
-    else or_else (unseen_fault (unseen_from asked past 0 asked.tasks))
-    (if asked.begin_at_run || has_wake_up asked past then None else Some causes.NoWakeUp))
+    else unseen_fault (unseen_from asked past 0 asked.tasks))
 
 -- The first line that is refused and why, or why the whole trace is, at its last line.
 abbrev pub trace_fault : Asked → List Said → Option (ℕ × Cause)

@@ -1,5 +1,5 @@
 -- What a task's kept state becomes by an event.
-use Rattle.std.specs.Prelude.{◌≡◌, ℕ, ◌+◌, ◌<◌, ◌≤◌, ◌==◌, ◌&&◌, ◌||◌, if◌then◌else◌, Bool, true, false, List, [], map, length, reverse, take, drop, sum_by, Option, Some, None, is_some, option_map}
+use Rattle.std.specs.Prelude.{◌≡◌, ℕ, ◌+◌, ◌<◌, ◌≤◌, ◌==◌, ◌&&◌, ◌||◌, if◌then◌else◌, Bool, true, false, List, [], ◌∷◌, map, length, reverse, take, drop, sum_by, Option, Some, None, is_some, option_map}
 use Rattle.std.specs.List.{slice_index_or, list_any, All}
 use Rattle.yds_kernel.specs.Event.{Said}
 use Rattle.yds_kernel.specs.Parts.{or_else}
@@ -14,18 +14,26 @@ use Rattle.yds_trace.specs.declared.step.Place.TheVariants as places
 use Rattle.yds_trace.specs.declared.step.Step.{Step}
 use Rattle.yds_trace.specs.declared.step.Step.TheVariants as steps
 use Rattle.yds_trace.specs.declared.step.Whose.{Whose}
-use Rattle.yds_trace.specs.Asked.{Start, Asked, no_task}
-use Rattle.yds_trace.specs.Jobs.{unknown, loses, stands_on}
+use Rattle.yds_trace.specs.declared.job.Pace.{Pace}
+use Rattle.yds_trace.specs.declared.job.Leaving.{Leaving}
+use Rattle.yds_trace.specs.Asked.{Start, Asked, no_task, pace_of, is_number}
+use Rattle.yds_trace.specs.Jobs.{unknown, loses, stands_on, earlier, missing_since}
 use Rattle.yds_trace.specs.Document.{share_of, began_before}
 use Rattle.yds_trace.specs.Others.{Span, Spans, is_waiting, ended_at}
-use Rattle.yds_trace.specs.Parts.{last_begin}
 use Rattle.yds_trace.specs.Passing.{closed_at}
 use Rattle.yds_trace.specs.Steps.{stepped}
 use Rattle.yds_trace.specs.Views.{job_read, jobs_listed, known_read, task_read, going_read, span_read}
 
--- A wake-up that comes less than so long after a job's begin goes on with it.
-abbrev pub apart_of : List TaskKept → ℕ → ℕ
-apart_of tasks number = (slice_index_or (map task_read tasks) number no_task).apart
+-- which wake-ups begin a job of this task, and when that is due
+abbrev pub pace_at : List TaskKept → ℕ → Pace
+pace_at tasks number = pace_of (slice_index_or (map task_read tasks) number no_task)
+
+-- Since when switches of these tasks are missing, from this number on, before one by which these threads leave and come.
+abbrev pub missing_among : Bool → Whose → Whose → Leaving → ℕ → List Followed → Option ℕ
+missing_among wakes first second leaving number [] = None
+missing_among wakes first second leaving number (followed ∷ tasks) = earlier
+    (missing_since wakes (is_number number first.number) (is_number number second.number) leaving (known_read followed.known))
+    (missing_among wakes first second leaving (number + 1) tasks)
 
 -- before the first line
 pub record IsUnknown (followed : Followed) : Type 0 where
@@ -35,15 +43,16 @@ pub record IsUnknown (followed : Followed) : Type 0 where
   pub before : followed.before ≡ false
 
 -- It took an event, in which its thread leaves or is woken by the first number, and comes by the second.
-pub record IsTaken (apart : ℕ) (wakes : Bool) (first second : Option ℕ) (step : Step) (was now : Followed) : Type 0 where
-  pub known : known_read now.known ≡ stepped apart wakes (is_some first) (is_some second) step (known_read was.known)
+pub record IsTaken (pace : Pace) (wakes : Bool) (first second : Option ℕ) (step : Step) (was now : Followed) : Type 0 where
+  pub known : known_read now.known ≡ stepped pace wakes (is_some first) (is_some second) step (known_read was.known)
   pub pid : now.pid ≡ or_else second (or_else first was.pid)
   pub forgotten : now.forgotten ≡ was.forgotten
   pub before : now.before ≡ was.before
 
 -- Of a thread on which processor it tells something, though that neither leaves, nor comes, nor is woken.
 abbrev pub place_of : Step → Place
-place_of (steps.Switch state leaving) = places.On leaving.processor
+place_of (steps.Switch state leaving None) = places.Nowhere
+place_of (steps.Switch state leaving (Some since)) = places.Everywhere
 place_of (steps.WakeUp time starts) = places.Nowhere
 place_of (steps.Speed processor time khz) = places.On processor
 place_of (steps.Loss since) = places.Everywhere
@@ -86,14 +95,12 @@ pub record Shows (until : ℕ) (start : Start) (counting : List Said) (followed 
   pub jobs : jobs_listed shown.jobs.items ≡ closed_at until start counting (known_read followed.known)
   pub forgotten : shown.forgotten ≡ followed.forgotten
   pub before : shown.before ≡ first_before followed
-  pub last : shown.last_begin ≡ last_begin (jobs_listed followed.known.jobs.items)
 
 -- The same task, with its jobs as the documents of the processor that is asked for have them.
 pub record Shares (asked : Asked) (was now : ShownTask) : Type 0 where
   pub jobs : map job_read now.jobs.items ≡ map (share_of asked) (map job_read was.jobs.items)
   pub forgotten : now.forgotten ≡ was.forgotten
   pub before : now.before ≡ was.before
-  pub last : now.last_begin ≡ was.last_begin
 
 -- # How much is kept
 
@@ -115,7 +122,7 @@ some_waits tasks = list_any (λ followed. is_waiting (known_read followed.known)
 
 -- An event tells of one of these tasks; where it is told who was in the way, each switch does while a job waits.
 abbrev pub touches_by : Bool → Whose → Whose → Step → List Followed → Bool
-touches_by others first second (steps.Switch state leaving) tasks = is_some first.number || is_some second.number || (others && some_waits tasks)
+touches_by others first second (steps.Switch state leaving missing) tasks = is_some first.number || is_some second.number || (others && some_waits tasks)
 touches_by others first second (steps.WakeUp time starts) tasks = is_some first.number
 touches_by others first second (steps.Speed processor time khz) tasks = list_any (λ followed. stands_on processor followed.known.on) tasks
 touches_by others first second (steps.Loss since) tasks = false

@@ -3,31 +3,34 @@
 -- A job begins where its thread is woken, and ends where that leaves a processor to sleep, or is over. Being preempted, waiting for a disk,
 -- being stopped or traced go on with it. Who comes without a wake-up hasn't slept. Of a job whose begin or end the trace doesn't show it is
 -- said what is known.
-use Rattle.std.specs.Prelude.{ℕ, ◌+◌, List, [], ◌∷◌, map, min, length, Bool, true, false, not, ◌==◌, ◌&&◌, nat_lt, if◌then◌else◌, Option, Some, None, is_none, unwrap_or}
+use Rattle.std.specs.Prelude.{ℕ, ◌+◌, List, [], ◌∷◌, map, min, Bool, true, false, not, ◌==◌, ◌&&◌, ◌||◌, nat_lt, if◌then◌else◌, Option, Some, None, is_some, is_none, unwrap_or}
 use Rattle.yds_kernel.specs.declared.state.State.{State}
 use Rattle.yds_kernel.specs.declared.state.State.TheVariants as states
 use Rattle.yds_kernel.specs.declared.loss.Since.TheVariants as since
 use Rattle.yds_kernel.specs.Parts.{capped}
-use Rattle.yds_kernel.specs.Event.{Happening, Switch, WakeUp, Speed, Loss, Marker, Other, Event, Said, Stamped, Lost, Nothing}
+use Rattle.yds_kernel.specs.Event.{Thread, Happening, Switch, WakeUp, Speed, Loss, Marker, Other, Event, Said, Stamped, Lost, Nothing}
 use Rattle.yds_trace.specs.declared.job.End.{End}
 use Rattle.yds_trace.specs.declared.job.End.TheVariants as ends
 use Rattle.yds_trace.specs.declared.job.Stretch.{Stretch}
 use Rattle.yds_trace.specs.declared.job.Standing.{Standing}
 use Rattle.yds_trace.specs.declared.job.Leaving.{Leaving}
 use Rattle.yds_trace.specs.declared.job.Woken.{Woken}
-use Rattle.yds_trace.specs.Asked.{Asked, task_at, is_of}
-use Rattle.yds_trace.specs.Past.{lost_since, whole_since, has_switched, speed_after}
+use Rattle.yds_trace.specs.declared.job.Pace.{Pace}
+use Rattle.yds_trace.specs.Asked.{Task, Asked, task_at, task_of, pace_of, is_of}
+use Rattle.yds_trace.specs.Past.{lost_since, lines_since, last_switch, who_has, speed_after}
 
 pub record Job : Type 0 where
   -- its begin; where that isn't known, a time before which it began, or at which
   pub begin : ℕ
   pub begin_known : Bool
+  -- Its deadline counts from here: from its begin, or from a period behind where that of the job before counts from, if that is earlier.
+  pub due_from : ℕ
   pub end : End
   -- in which its thread ran, the last one first
   pub stretches : List Stretch
   -- how many wake-ups came while it was open
   pub wake_ups : ℕ
-  -- a switch of its thread is missing, so not all that it ran is known
+  -- its thread's coming to a processor is missing, so not all that it ran is known
   pub switch_missing : Bool
   -- its thread left to sleep at this time, and came back without a wake-up: it hasn't slept
   pub slept : Option ℕ
@@ -47,18 +50,19 @@ pub record Known : Type 0 where
 
 -- nothing was seen of it, since the trace's begin or since events were lost
 abbrev pub not_seen : Woken
-not_seen = record { came = false; started = None; seen = false }
+not_seen = record { came = false; started = None; seen = false; ever = false }
 
 abbrev pub unknown : Known
 unknown = record { jobs = []; on = None; woken = not_seen }
 
 -- # A job begins, goes on, or ends
 
-abbrev pub new_job : ℕ → Bool → Job
-new_job time certain =
+abbrev pub new_job : ℕ → ℕ → Bool → Job
+new_job time due_from certain =
     record {
       begin = time;
       begin_known = certain;
+      due_from = due_from;
       end = ends.Open;
       stretches = [];
       wake_ups = 0;
@@ -69,16 +73,26 @@ new_job time certain =
     }
 
 abbrev pub began : ℕ → Bool → List Job → List Job
-began time certain jobs = new_job time certain ∷ jobs
+began time certain jobs = new_job time time certain ∷ jobs
+
+-- With a period a job is due no later than a period behind the one before it, however late it begins. Where that one's begin isn't known, or there
+-- is no period, it is due by its own begin.
+abbrev pub due_behind : ℕ → ℕ → Job → ℕ
+due_behind period time before =
+    if before.begin_known && not (period == 0) then min time (before.due_from + period) else time
+
+-- a job begins behind one that has ended
+abbrev pub began_behind : ℕ → ℕ → Job → List Job → List Job
+began_behind period time before jobs = new_job time (due_behind period time before) true ∷ before ∷ jobs
 
 -- open again, and its end forgotten
 abbrev pub reopened : Job → Job
 reopened job = record job { end = ends.Open }
 
 -- A wake-up less than `apart` after the last job's begin goes on with it. Where that begin isn't known, neither is whether another job begins here.
-abbrev pub woken_after : ℕ → ℕ → Job → List Job → List Job
-woken_after apart time job jobs =
-    if not (nat_lt time (job.begin + apart)) then began time true (job ∷ jobs)
+abbrev pub woken_after : Pace → ℕ → Job → List Job → List Job
+woken_after pace time job jobs =
+    if not (nat_lt time (job.begin + pace.apart)) then began_behind pace.period time job jobs
     else (if job.begin_known then reopened job ∷ jobs else began time false (job ∷ jobs))
 
 -- A wake-up is counted where it isn't the second of one. Beyond 64 bits none is.
@@ -86,24 +100,12 @@ abbrev pub counted : Bool → Job → Job
 counted again job = if again then job else record job { wake_ups = capped (job.wake_ups + 1) }
 
 -- A wake-up begins a job where none is open. Where one is, it counts it, the first time since the thread's last switch.
-abbrev pub woken_jobs : ℕ → ℕ → Bool → List Job → List Job
-woken_jobs apart time again [] = began time true []
-woken_jobs apart time again (job ∷ jobs) = elim job.end [
+abbrev pub woken_jobs : Pace → ℕ → Bool → List Job → List Job
+woken_jobs pace time again [] = began time true []
+woken_jobs pace time again (job ∷ jobs) = elim job.end [
   | ends.Open ↦ counted again job ∷ jobs
-  | ends.Ended end ↦ woken_after apart time job jobs
-  | ends.Unseen last goes_on ↦ began time true (job ∷ jobs)
+  | ends.Ended end ↦ woken_after pace time job jobs
   | ends.Lost last ↦ began time true (job ∷ jobs)
-]
-
--- A thread is found awake: its open job goes on. Without one it began before, or just here. One that left its processor unseen and wasn't
--- woken since then hasn't slept.
-abbrev pub awake_jobs : ℕ → List Job → List Job
-awake_jobs time [] = began time false []
-awake_jobs time (job ∷ jobs) = elim job.end [
-  | ends.Open ↦ job ∷ jobs
-  | ends.Ended end ↦ began time false (job ∷ jobs)
-  | ends.Unseen last goes_on ↦ if goes_on then reopened job ∷ jobs else began time false (job ∷ jobs)
-  | ends.Lost last ↦ began time false (job ∷ jobs)
 ]
 
 -- Where events were lost after a time, a wake-up may be among them. So one that went on behind a sleep may have slept there.
@@ -114,7 +116,6 @@ open_until time slept = min time (unwrap_or slept time)
 abbrev pub lost_end : ℕ → Option ℕ → End → End
 lost_end time slept ends.Open = ends.Lost (open_until time slept)
 lost_end time slept (ends.Ended end) = if nat_lt time end then ends.Lost (open_until time slept) else ends.Ended end
-lost_end time slept (ends.Unseen last goes_on) = ends.Lost (min (open_until time slept) last)
 lost_end time slept (ends.Lost last) = ends.Lost (min time last)
 
 abbrev pub lost_job : ℕ → Job → Job
@@ -124,34 +125,47 @@ lost_job time job = record job { end = lost_end time job.slept job.end }
 abbrev pub went_on : ℕ → Job → Job
 went_on time job = record job { end = ends.Open; slept = Some time }
 
--- Its thread left to sleep at a time, and comes back. With a wake-up before it left, it was woken while it went to sleep: that counts as one behind
--- it. Without one it hasn't slept. If that is so a second time, wake-ups aren't recorded, and from the first such sleep on nothing is known.
-abbrev pub back_jobs : ℕ → ℕ → ℕ → Option ℕ → Job → List Job → List Job
-back_jobs apart time end (Some woken) job jobs = woken_after apart woken job jobs
-back_jobs apart time end None job jobs = elim job.slept [
-  | None ↦ went_on end job ∷ jobs
-  | Some first ↦ began time false (lost_job first job ∷ jobs)
-]
+-- nothing is known of its end since its first sleep without a wake-up, or since this one
+abbrev pub unended : ℕ → Job → Job
+unended end job = record job { end = ends.Lost (unwrap_or job.slept end) }
+
+-- Its thread left to sleep at a time, and comes back without a wake-up since: it hasn't slept. If that is so a second time, or no wake-up of it was
+-- ever seen, wake-ups aren't recorded.
+abbrev pub unwoken_jobs : ℕ → ℕ → Bool → Job → List Job → List Job
+unwoken_jobs time end ever job jobs =
+    if ever && is_none job.slept then went_on end job ∷ jobs else began time false (unended end job ∷ jobs)
+
+-- With a wake-up before it left, it was woken while it went to sleep: that counts as one behind it.
+abbrev pub back_jobs : Pace → ℕ → ℕ → Bool → Option ℕ → Job → List Job → List Job
+back_jobs pace time end ever (Some woken) job jobs = woken_after pace woken job jobs
+back_jobs pace time end ever None job jobs = unwoken_jobs time end ever job jobs
 
 -- A thread comes. Where events were lost since its last switch, it may have slept in between.
-abbrev pub come_jobs : ℕ → ℕ → Woken → List Job → List Job
-come_jobs apart time woken [] = began time false []
-come_jobs apart time woken (job ∷ jobs) = elim job.end [
+abbrev pub come_jobs : Pace → ℕ → Woken → List Job → List Job
+come_jobs pace time woken [] = began time false []
+come_jobs pace time woken (job ∷ jobs) = elim job.end [
   | ends.Open ↦ job ∷ jobs
-  | ends.Ended end ↦ if woken.seen then back_jobs apart time end woken.started job jobs else began time false (job ∷ jobs)
-  | ends.Unseen last goes_on ↦ if goes_on then reopened job ∷ jobs else began time false (job ∷ jobs)
+  | ends.Ended end ↦ if woken.seen then back_jobs pace time end woken.ever woken.started job jobs else began time false (job ∷ jobs)
   | ends.Lost last ↦ began time false (job ∷ jobs)
 ]
 
 -- The same where jobs begin at their first run: what is open goes on, and else a job begins here as by a wake-up. Of a thread's first run in the
--- trace, and of its first after a loss or a missing switch, it isn't known whether the job ran before.
-abbrev pub running_jobs : ℕ → ℕ → List Job → List Job
-running_jobs apart time [] = began time false []
-running_jobs apart time (job ∷ jobs) = elim job.end [
+-- trace, and of its first after a loss, it isn't known whether the job ran before.
+abbrev pub running_jobs : Pace → ℕ → List Job → List Job
+running_jobs pace time [] = began time false []
+running_jobs pace time (job ∷ jobs) = elim job.end [
   | ends.Open ↦ job ∷ jobs
-  | ends.Ended end ↦ woken_after apart time job jobs
-  | ends.Unseen last goes_on ↦ began time false (job ∷ jobs)
+  | ends.Ended end ↦ woken_after pace time job jobs
   | ends.Lost last ↦ began time false (job ∷ jobs)
+]
+
+-- A thread is found to run, and wasn't seen to come: its open job goes on, and else one begins, here or before.
+abbrev pub found_jobs : ℕ → Bool → List Job → List Job
+found_jobs time certain [] = began time certain []
+found_jobs time certain (job ∷ jobs) = elim job.end [
+  | ends.Open ↦ job ∷ jobs
+  | ends.Ended end ↦ began time certain (job ∷ jobs)
+  | ends.Lost last ↦ began time certain (job ∷ jobs)
 ]
 
 -- the last job, changed
@@ -172,55 +186,88 @@ missing job = record job { switch_missing = true }
 abbrev pub ran : Stretch → Job → Job
 ran stretch job = record job { stretches = stretch ∷ job.stretches }
 
--- # A thread's switches
+-- # Losses
 
--- Its thread is not where it was last seen to come: it left unseen, and whether its job has ended isn't known.
-abbrev pub left_unseen : ℕ → Bool → Job → Job
-left_unseen came goes_on job = record job { end = ends.Unseen came goes_on; switch_missing = true }
+abbrev pub loses : ℕ → Known → Known
+loses time known = record {
+  jobs = map (lost_job time) known.jobs;
+  on = None;
+  woken = not_seen;
+}
 
-abbrev pub vanished : Bool → Known → Known
-vanished wakes known = elim known.on [
-  | None ↦ known
-  | Some standing ↦ record {
-    jobs = changed_last (left_unseen standing.came (wakes && not known.woken.came)) known.jobs;
-    on = None;
-    woken = record known.woken { started = None };
-  }
+abbrev pub has_open_job : List Job → Bool
+has_open_job [] = false
+has_open_job (job ∷ jobs) = elim job.end [
+  | ends.Open ↦ true
+  | ends.Ended end ↦ false
+  | ends.Lost last ↦ false
 ]
+
+-- # Switches that are missing
 
 abbrev pub stands_on : ℕ → Option Standing → Bool
 stands_on processor None = false
 stands_on processor (Some standing) = standing.processor == processor
 
--- Another thread leaves this processor. Where this one was seen to come there, a switch between is missing.
-abbrev pub passed_by : Bool → ℕ → Known → Known
-passed_by wakes processor known = if stands_on processor known.on then vanished wakes known else known
+abbrev pub is_open_or_woken : Woken → End → Bool
+is_open_or_woken woken ends.Open = true
+is_open_or_woken woken (ends.Ended end) = woken.seen && is_some woken.started
+is_open_or_woken woken (ends.Lost last) = false
 
--- it comes to a processor, at a time
-abbrev pub comes : ℕ → Bool → ℕ → ℕ → Known → Known
-comes apart wakes processor time known = record {
-  jobs = if wakes then come_jobs apart time (vanished wakes known).woken (vanished wakes known).jobs
-      else running_jobs apart time (vanished wakes known).jobs;
-  on = Some (record { processor = processor; came = time; since = time });
-  woken = record { came = false; started = None; seen = true };
-}
+-- Its last job is open, or it was woken while it went to sleep.
+abbrev pub is_awake : Known → Bool
+is_awake known = elim known.jobs [ [] ↦ false | job ∷ jobs ↦ is_open_or_woken known.woken job.end ]
 
--- The last job is open and hasn't run, or events were lost while it was; or there is none.
-abbrev pub has_no_switch : List Job → Bool
-has_no_switch [] = true
-has_no_switch (job ∷ jobs) = elim job.end [
-  | ends.Open ↦ (length job.stretches == 0) && not job.switch_missing
-  | ends.Ended end ↦ false
-  | ends.Unseen last goes_on ↦ false
-  | ends.Lost last ↦ true
+-- Where a thread that leaves a processor has none, it needn't have come in a line that is missing: it came there under another name, or it was
+-- there when the trace began, or events were last lost. Where it was awake, its coming alone is missing: that is no loss. Without wake-ups it isn't
+-- known who was.
+abbrev pub is_there : Bool → Leaving → Known → Bool
+is_there wakes leaving known = leaving.renamed || (is_none leaving.switched && not known.woken.seen) || not wakes || is_awake known
+
+-- since when switches of its processor may be missing: since its last one, or since its first line behind a loss
+abbrev pub last_told : Leaving → ℕ
+last_told leaving = unwrap_or leaving.switched leaving.lines_since
+
+-- A thread stands on this processor and doesn't leave it, or on another one and leaves this one or comes to it.
+abbrev pub is_displaced : Bool → Bool → ℕ → Standing → Bool
+is_displaced left came processor standing = if standing.processor == processor then not left else left || came
+
+-- Since when a switch of the thread is missing, before one of a processor, if one is.
+abbrev pub missing_since : Bool → Bool → Bool → Leaving → Known → Option ℕ
+missing_since wakes left came leaving known = elim known.on [
+  | None ↦ if left && not (is_there wakes leaving known) then Some (last_told leaving) else None
+  | Some standing ↦ if is_displaced left came leaving.processor standing then Some (min standing.came (last_told leaving)) else None
 ]
 
--- Nothing was seen of the thread's switches since the trace's begin, or since events were lost.
-abbrev pub is_new : Known → Bool
-is_new known = not known.woken.seen && has_no_switch known.jobs
+-- A thread that has another processor came there, whatever is missing before.
+abbrev pub torn_jobs : ℕ → ℕ → List Job → List Job
+torn_jobs since came jobs = if nat_lt since came then began came false (map (lost_job since) jobs) else jobs
 
+-- Switches are missing since this time: that is a loss, but to a thread that has another processor.
+abbrev pub torn : Bool → Bool → ℕ → ℕ → Known → Known
+torn left came processor since known = elim known.on [
+  | None ↦ loses since known
+  | Some standing ↦ if left || came || (standing.processor == processor) then loses since known
+      else record known { jobs = torn_jobs since standing.came known.jobs }
+]
+
+abbrev pub torn_if : Bool → Bool → ℕ → Option ℕ → Known → Known
+torn_if left came processor None known = known
+torn_if left came processor (Some since) known = torn left came processor since known
+
+-- # A thread's switches
+
+-- it comes to a processor, at a time
+abbrev pub comes : Pace → Bool → ℕ → ℕ → Known → Known
+comes pace wakes processor time known = record {
+  jobs = if wakes then come_jobs pace time known.woken known.jobs else running_jobs pace time known.jobs;
+  on = Some (record { processor = processor; came = time; since = time });
+  woken = record { came = false; started = None; seen = true; ever = known.woken.ever };
+}
+
+-- It was open by this time: where its wake-up came later, that isn't its begin.
 abbrev pub begun_at_most : ℕ → Job → Job
-begun_at_most time job = record job { begin = time; begin_known = false }
+begun_at_most time job = if nat_lt time job.begin then record job { begin = time; begin_known = false; due_from = time } else job
 
 -- the open job began by this time, or one did
 abbrev pub begun_by : ℕ → List Job → List Job
@@ -233,36 +280,40 @@ begun_by time (job ∷ jobs) = elim job.end [
 abbrev pub stretch_of : Leaving → ℕ → Stretch
 stretch_of leaving from = record { processor = leaving.processor; from = from; to = leaving.time; khz = leaving.khz }
 
--- Its jobs where it leaves a processor: it was seen to come there; or it was there when the trace began, or when events were last lost; or its
--- coming is missing.
-abbrev pub left_from : Bool → Leaving → Known → List Job
-left_from wakes leaving known =
-    if stands_on leaving.processor known.on then elim known.on [
-      | None ↦ known.jobs
-      | Some standing ↦ changed_last (ran (stretch_of leaving standing.since)) known.jobs
-    ]
-    else (if is_none known.on && not leaving.has_switched && is_new known
-    then changed_last (ran (stretch_of leaving leaving.whole_since)) (begun_by leaving.whole_since known.jobs)
-    else changed_last missing (awake_jobs leaving.time (vanished wakes known).jobs))
+-- Its jobs where it leaves a processor to which it wasn't seen to come. Under another name it came as none of the task's: from here on it is.
+-- It was there when the processor's lines began, or began again behind a loss; or its coming is missing.
+abbrev pub left_unseen : Pace → Bool → Bool → Leaving → Known → List Job
+left_unseen pace wakes torn leaving known =
+    if leaving.renamed then found_jobs leaving.time true known.jobs
+    else (if not torn && is_none leaving.switched && not known.woken.seen
+    then changed_last (ran (stretch_of leaving leaving.lines_since)) (begun_by leaving.lines_since known.jobs)
+    else changed_last missing (if wakes then come_jobs pace leaving.time known.woken known.jobs else found_jobs leaving.time false known.jobs))
+
+-- where it leaves a processor
+abbrev pub left_from : Pace → Bool → Bool → Leaving → Known → List Job
+left_from pace wakes torn leaving known = elim known.on [
+  | None ↦ left_unseen pace wakes torn leaving known
+  | Some standing ↦ changed_last (ran (stretch_of leaving standing.since)) known.jobs
+]
 
 -- Who is preempted, waits for a disk, is stopped or traced goes on with its job, and who sleeps or is over ends it. In a state that the kernel
 -- doesn't have, which is a fault of the trace for a listed thread, nothing is known of its end.
-abbrev pub left_in : Bool → State → ℕ → List Job → List Job
-left_in wakes states.GoesOn time jobs = jobs
-left_in wakes states.Sleeps time jobs = changed_last (ended time) jobs
-left_in wakes states.Exits time jobs = changed_last (exits time) jobs
-left_in wakes states.Unknown time jobs = changed_last (left_unseen time wakes) jobs
+abbrev pub left_in : State → ℕ → List Job → List Job
+left_in states.GoesOn time jobs = jobs
+left_in states.Sleeps time jobs = changed_last (ended time) jobs
+left_in states.Exits time jobs = changed_last (exits time) jobs
+left_in states.Unknown time jobs = changed_last (lost_job time) jobs
 
 -- A wake-up that was started while it ran isn't done yet where it goes to sleep.
-abbrev pub left_started : State → Bool → Option ℕ → Option ℕ
-left_started states.Sleeps stands started = if stands then started else None
-left_started _ stands started = None
+abbrev pub left_started : State → Option ℕ → Option ℕ
+left_started states.Sleeps started = started
+left_started _ started = None
 
-abbrev pub leaves : Bool → State → Leaving → Known → Known
-leaves wakes state leaving known = record {
-  jobs = left_in wakes state leaving.time (left_from wakes leaving known);
+abbrev pub leaves : Pace → Bool → Bool → State → Leaving → Known → Known
+leaves pace wakes torn state leaving known = record {
+  jobs = left_in state leaving.time (left_from pace wakes torn leaving known);
   on = None;
-  woken = record { came = false; started = left_started state (stands_on leaving.processor known.on) known.woken.started; seen = true };
+  woken = record { came = false; started = left_started state known.woken.started; seen = true; ever = known.woken.ever };
 }
 
 -- # Other events
@@ -272,11 +323,15 @@ abbrev pub woken_at : Bool → ℕ → Option ℕ → ℕ
 woken_at true time started = time
 woken_at false time started = unwrap_or started time
 
-abbrev pub wakes_up : ℕ → Bool → ℕ → Known → Known
-wakes_up apart starts time known = record {
-  jobs = woken_jobs apart (woken_at starts time known.woken.started) known.woken.came known.jobs;
+-- It may have come while the thread ran: a job was open, or nothing of the thread was seen before.
+abbrev pub may_run : Known → Bool
+may_run known = has_open_job known.jobs || not known.woken.seen
+
+abbrev pub wakes_up : Pace → Bool → ℕ → Known → Known
+wakes_up pace starts time known = record {
+  jobs = woken_jobs pace (woken_at starts time known.woken.started) known.woken.came known.jobs;
   on = known.on;
-  woken = record { came = true; started = if starts then Some time else None; seen = known.woken.seen };
+  woken = record { came = true; started = if starts && may_run known then Some time else None; seen = known.woken.seen; ever = true };
 }
 
 -- the speed of its processor changes: what it ran at the speed before is a stretch
@@ -290,65 +345,75 @@ speeds processor time khz known = elim known.on [
   } else known
 ]
 
--- Of a job behind which another one has begun, what was known of its end before the loss stays.
-abbrev pub lost_before : ℕ → Option ℕ → End → End
-lost_before time slept (ends.Unseen last goes_on) =
-    if nat_lt time last then ends.Lost (open_until time slept) else ends.Unseen last goes_on
-lost_before time slept end = lost_end time slept end
-
-abbrev pub lost_earlier : ℕ → Job → Job
-lost_earlier time job = record job { end = lost_before time job.slept job.end }
-
-abbrev pub lost_jobs : ℕ → List Job → List Job
-lost_jobs time [] = []
-lost_jobs time (job ∷ jobs) = lost_job time job ∷ map (lost_earlier time) jobs
-
-abbrev pub loses : ℕ → Known → Known
-loses time known = record {
-  jobs = lost_jobs time known.jobs;
-  on = None;
-  woken = not_seen;
-}
-
 -- # The lines of a trace
 
-abbrev pub leaving_at : Asked → List Said → Event → Leaving
-leaving_at asked past event = record {
+-- who has a processor by its last switch has this number
+abbrev pub is_pid : ℕ → Option Thread → Bool
+is_pid pid None = false
+is_pid pid (Some thread) = thread.pid == pid
+
+-- The thread came to the processor by its last switch, and was no task then.
+abbrev pub came_unlisted : Asked → Thread → Option Thread → Bool
+came_unlisted asked thread None = false
+came_unlisted asked thread (Some came) = (came.pid == thread.pid) && is_none (task_of asked.tasks came)
+
+abbrev pub leaving_at : Asked → List Said → Event → Thread → Leaving
+leaving_at asked past event previous = record {
   processor = event.processor;
   time = event.time;
   khz = speed_after asked.start event.processor past;
-  has_switched = has_switched event.processor past;
-  whole_since = whole_since event.time past;
+  switched = last_switch event.processor past;
+  lines_since = lines_since event.processor event.time past;
+  renamed = came_unlisted asked previous (who_has event.processor past);
 }
 
--- Of a switch, first who leaves: this thread, or another one.
-abbrev pub left_if : Bool → Bool → State → Leaving → Known → Known
-left_if wakes mine state leaving known =
-    if mine then leaves wakes state leaving known else passed_by wakes leaving.processor known
+-- Of a switch, first who leaves: this thread, or another one. Then who comes.
+abbrev pub left_if : Pace → Bool → Bool → Bool → State → Leaving → Known → Known
+left_if pace wakes torn mine state leaving known = if mine then leaves pace wakes torn state leaving known else known
 
--- Then who comes: this thread, or another one.
-abbrev pub came_if : ℕ → Bool → Bool → Leaving → Known → Known
-came_if apart wakes mine leaving known = if mine then comes apart wakes leaving.processor leaving.time known else known
+abbrev pub came_if : Pace → Bool → Bool → Leaving → Known → Known
+came_if pace wakes mine leaving known = if mine then comes pace wakes leaving.processor leaving.time known else known
 
-abbrev pub after_switch : ℕ → Bool → Bool → Bool → State → Leaving → Known → Known
-after_switch apart wakes left came state leaving known = came_if apart wakes came leaving (left_if wakes left state leaving known)
+-- Before both, what the switches say that are missing before, if some are, and since when.
+abbrev pub after_switch : Pace → Bool → Bool → Bool → State → Leaving → Option ℕ → Known → Known
+after_switch pace wakes left came state leaving since known =
+    came_if pace wakes came leaving (left_if pace wakes (is_some since) left state leaving (torn_if left came leaving.processor since known))
+
+-- the earlier one
+abbrev pub earlier : Option ℕ → Option ℕ → Option ℕ
+earlier None other = other
+earlier (Some time) None = Some time
+earlier (Some time) (Some other) = Some (min time other)
+
+-- Since when switches of these tasks' threads are missing, from this number on, of which so much is known: before one where this thread leaves,
+-- and that one comes.
+abbrev pub missing_of : Asked → Thread → Thread → Leaving → (ℕ → Known) → ℕ → List Task → Option ℕ
+missing_of asked previous next leaving known number [] = None
+missing_of asked previous next leaving known number (task ∷ tasks) = earlier
+    (missing_since (not asked.begin_at_run) (is_of asked number previous) (is_of asked number next) leaving (known number))
+    (missing_of asked previous next leaving known (number + 1) tasks)
 
 -- what is known of the task's thread after an event
-abbrev pub after_event : Asked → ℕ → List Said → Event → Happening → Known → Known
+abbrev pub after_event : Asked → ℕ → List Said → Event → Happening → (ℕ → Known) → Known
 after_event asked number past event (Switch previous state next) known =
-    after_switch (task_at asked number).apart (not asked.begin_at_run) (is_of asked number previous) (is_of asked number next) state
-    (leaving_at asked past event) known
+    after_switch (pace_of (task_at asked number)) (not asked.begin_at_run) (is_of asked number previous) (is_of asked number next) state
+    (leaving_at asked past event previous) (missing_of asked previous next (leaving_at asked past event previous) known 0 asked.tasks) (known number)
 after_event asked number past event (WakeUp thread starts) known =
-    if is_of asked number thread && not asked.begin_at_run then wakes_up (task_at asked number).apart starts event.time known else known
+    if is_of asked number thread && not asked.begin_at_run then wakes_up (pace_of (task_at asked number)) starts event.time (known number)
+    else known number
 after_event asked number past event (Speed processor khz) known =
-    speeds processor event.time (speed_after asked.start processor past) known
-after_event asked number past event Loss known = loses (lost_since event.processor since.ItsLastLine past) known
-after_event asked number past event Marker known = known
-after_event asked number past event Other known = known
+    speeds processor event.time (speed_after asked.start processor past) (known number)
+after_event asked number past event Loss known = loses (lost_since event.processor since.ItsLastLine past) (known number)
+after_event asked number past event Marker known = known number
+after_event asked number past event Other known = known number
 
--- what is known of the task of this number after these lines, of which the last one stands first
+-- what is known of each task after these lines, of which the last one stands first
+abbrev pub all_known : Asked → List Said → ℕ → Known
+all_known asked [] number = unknown
+all_known asked (Stamped event ∷ past) number = after_event asked number past event event.happening (all_known asked past)
+all_known asked (Lost processor reach ∷ past) number = loses (lost_since processor reach past) (all_known asked past number)
+all_known asked (Nothing ∷ past) number = all_known asked past number
+
+-- what is known of the task of this number
 abbrev pub known_after : Asked → ℕ → List Said → Known
-known_after asked number [] = unknown
-known_after asked number (Stamped event ∷ past) = after_event asked number past event event.happening (known_after asked number past)
-known_after asked number (Lost processor reach ∷ past) = loses (lost_since processor reach past) (known_after asked number past)
-known_after asked number (Nothing ∷ past) = known_after asked number past
+known_after asked number past = all_known asked past number

@@ -13,35 +13,44 @@ use Rattle.yds_trace.specs.declared.lines.Lines.{Lines}
 use Rattle.yds_trace.specs.declared.tally.Tally.{Tally}
 use Rattle.yds_trace.specs.declared.others.Others.{Others as OthersKept}
 use Rattle.yds_trace.specs.declared.pass.Pass.{Pass}
-use Rattle.yds_trace.specs.Asked.{Task, StartSpeed, Start, start_in, Asked, task_of}
-use Rattle.yds_trace.specs.Past.{first_time, last_time, last_time_on, whole_since, has_switched, up_to, speed_after}
+use Rattle.yds_trace.specs.Asked.{Task, StartSpeed, Start, start_in, lost_speed, Asked, task_of}
+use Rattle.yds_trace.specs.Past.{first_time, last_time, last_time_on, lines_since, last_switch, who_has, up_to, speed_after}
 use Rattle.yds_trace.specs.Jobs.{Job, Known, known_after}
 use Rattle.yds_trace.specs.Document.{began_before}
-use Rattle.yds_trace.specs.Faults.{pid_before, lost_just_before, touched, has_stamp, has_wake_up}
+use Rattle.yds_trace.specs.Faults.{pid_before, lost_just_before, touched, has_stamp}
 use Rattle.yds_trace.specs.Tally.{losses_before, missing_switches, markers, longest_pause}
-use Rattle.yds_trace.specs.Others.{Span, who_has, shortened, other_of, spans_after, others_from}
+use Rattle.yds_trace.specs.Others.{Span, shortened, other_of, spans_after, others_from}
 use Rattle.yds_trace.specs.Parts.{waiting_from, stretches_of}
 use Rattle.yds_trace.specs.Views.{jobs_listed, known_read, asked_read, another_read, going_read, span_read}
 
 -- # Lines
 
 abbrev pub told_on : PastKept → ℕ → Told
-told_on kept processor = slice_index_or kept.told.items processor (record { switched = false; khz = kept.untold; came = None })
+told_on kept processor = slice_index_or kept.told.items processor (record { since = None; switched = None; khz = kept.untold; came = None })
 
 -- What is told of each processor before the first line is its speed among these.
 abbrev pub TellsSpeeds : List StartSpeed → List Told → Type 0
-TellsSpeeds speeds told = (processor : ℕ) → slice_index_or told processor (record { switched = false; khz = None; came = None })
-    ≡ record { switched = false; khz = start_in speeds processor; came = None }
+TellsSpeeds speeds told = (processor : ℕ) → slice_index_or told processor (record { since = None; switched = None; khz = None; came = None })
+    ≡ record { since = None; switched = None; khz = start_in speeds processor; came = None }
 
 -- What is kept stands for these lines, where the speeds before the first change are those of `start`.
 pub record IsPast (start : Start) (past : List Said) (kept : PastKept) : Type 0 where
   pub stamp : is_some kept.first ≡ has_stamp past
   pub first : (here : ℕ) → first_time here past ≡ unwrap_or kept.first here
   pub last : last_time past ≡ kept.last
-  pub whole : (here : ℕ) → whole_since here past ≡ unwrap_or kept.whole_since here
+  pub began : (processor here : ℕ) → lines_since processor here past ≡ unwrap_or (told_on kept processor).since here
   pub line : (processor : ℕ) → last_time_on processor past ≡ slice_index_or kept.lines.items processor None
-  pub switched : (processor : ℕ) → has_switched processor past ≡ (told_on kept processor).switched
+  pub switched : (processor : ℕ) → last_switch processor past ≡ (told_on kept processor).switched
   pub speed : (processor : ℕ) → speed_after start processor past ≡ (told_on kept processor).khz
+  pub lost : lost_speed start ≡ kept.lost
+
+-- the number of who came to a processor, where that is no task
+abbrev pub unlisted : List Task → Option Thread → Option ℕ
+unlisted tasks None = None
+unlisted tasks (Some thread) = if is_none (task_of tasks thread) then Some thread.pid else None
+
+abbrev pub HaveCome : List Task → List Said → PastKept → Type 0
+HaveCome tasks past kept = (processor : ℕ) → (told_on kept processor).came ≡ unlisted tasks (who_has processor past)
 
 -- # The lines that count
 
@@ -85,6 +94,7 @@ AreOthersOf asked counting boundary kept = elim asked.others [ None ↦ Unit {0}
 
 pub record IsCounted (asked : Asked) (counting : List Said) (counted : Counted) : Type 0 where
   pub times : IsPast asked.start counting counted.past
+  pub came : HaveCome asked.tasks counting counted.past
   pub as_many : vec_len counted.tasks ≡ length asked.tasks
   pub tasks : (number : ℕ) (default : Followed) → number < length asked.tasks →
       IsFollowed asked counting counted.boundary number (slice_index_or counted.tasks.items number default)
@@ -95,14 +105,6 @@ pub record IsCounted (asked : Asked) (counting : List Said) (counted : Counted) 
 
 -- # All lines
 
--- the number of who came to a processor, where that is no task
-abbrev pub unlisted : List Task → Option Thread → Option ℕ
-unlisted tasks None = None
-unlisted tasks (Some thread) = if is_none (task_of tasks thread) then Some thread.pid else None
-
-abbrev pub HaveCome : List Task → List Said → PastKept → Type 0
-HaveCome tasks past kept = (processor : ℕ) → (told_on kept processor).came ≡ unlisted tasks (who_has processor past)
-
 -- who came to a processor by its last switch, behind an event by which this one comes, or none who is told
 abbrev pub came_by : ℕ → Event → Happening → Option ℕ → Option ℕ → Option ℕ
 came_by processor event (Switch previous state next) came before = if event.processor == processor then came else before
@@ -110,19 +112,18 @@ came_by processor event Loss came before = None
 came_by processor event _ came before = before
 
 -- what is counted of these lines, but for the end of the trace
-pub record IsTallied (from to : Option ℕ) (tasks : List Task) (past : List Said) (tally : Tally) : Type 0 where
-  pub losses : tally.losses ≡ capped (losses_before from to past)
-  pub missing : tally.missing ≡ capped (missing_switches from to tasks past)
-  pub markers : tally.markers ≡ capped (markers from to past)
-  pub pause : tally.pause ≡ longest_pause from to past
+pub record IsTallied (asked : Asked) (past : List Said) (tally : Tally) : Type 0 where
+  pub losses : tally.losses ≡ capped (losses_before asked past)
+  pub missing : tally.missing ≡ capped (missing_switches asked.from asked.to asked.tasks past)
+  pub markers : tally.markers ≡ capped (markers asked.from asked.to past)
+  pub pause : tally.pause ≡ longest_pause asked.from asked.to past
 
 pub record IsLines (asked : Asked) (past : List Said) (lines : Lines) : Type 0 where
   pub times : IsPast asked.start past lines.past
   pub lost : lines.lost ≡ lost_just_before asked.to past
-  pub woken : lines.woken ≡ has_wake_up asked past
   pub as_many : vec_len lines.seen ≡ length asked.tasks
   pub came : HaveCome asked.tasks past lines.past
-  pub tallied : IsTallied asked.from asked.to asked.tasks past lines.tallied
+  pub tallied : IsTallied asked past lines.tallied
   pub seen : (number : ℕ) → number < length asked.tasks → slice_index_or lines.seen.items number false ≡ is_some (pid_before asked number past)
 
 -- # A pass

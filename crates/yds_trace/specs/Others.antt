@@ -4,38 +4,15 @@
 -- line behind which it is in the way to the line behind which it isn't any more.
 use Rattle.std.specs.Prelude.{ℕ, ◌+◌, List, [], ◌∷◌, take, filter, reverse, max, min, Bool, true, false, not, ◌==◌, ◌&&◌, ◌||◌, nat_lt, if◌then◌else◌, Option, Some, None, is_none}
 use Rattle.std.specs.List.{filter_map}
-use Rattle.yds_kernel.specs.Event.{Thread, Happening, Switch, Loss, Event, Said, Stamped, Lost, Nothing}
+use Rattle.yds_kernel.specs.Event.{Thread, Said, Stamped, Lost, Nothing}
 use Rattle.yds_trace.specs.declared.job.End.TheVariants as ends
 use Rattle.yds_trace.specs.declared.limits.TheConstants.{MAX_OTHER_NAME}
 use Rattle.yds_trace.specs.Asked.{Task, Asked, task_of}
-use Rattle.yds_trace.specs.Past.{last_time, up_to}
-use Rattle.yds_trace.specs.Jobs.{Job, Known, known_after}
+use Rattle.yds_trace.specs.Past.{last_time, up_to, who_has}
+use Rattle.yds_trace.specs.Jobs.{Job, Known, has_open_job, known_after}
 use Rattle.yds_trace.specs.Late.{last_asked}
 
--- # Who has a processor
-
--- by its last switch since events were lost
-abbrev pub has_it : ℕ → Event → Happening → Option Thread → Option Thread
-has_it processor event (Switch previous state next) before = if event.processor == processor then Some next else before
-has_it processor event Loss before = None
-has_it processor event _ before = before
-
-abbrev pub who_has : ℕ → List Said → Option Thread
-who_has processor [] = None
-who_has processor (Stamped event ∷ past) = has_it processor event event.happening (who_has processor past)
-who_has processor (Lost other reach ∷ past) = None
-who_has processor (Nothing ∷ past) = who_has processor past
-
 -- # Whether a job waits
-
-abbrev pub has_open_job : List Job → Bool
-has_open_job [] = false
-has_open_job (job ∷ jobs) = elim job.end [
-  | ends.Open ↦ true
-  | ends.Ended end ↦ false
-  | ends.Unseen last goes_on ↦ false
-  | ends.Lost last ↦ false
-]
 
 -- Its job is open, and its thread has no processor.
 abbrev pub is_waiting : Known → Bool

@@ -2,7 +2,7 @@
 --
 -- A part has the waiting jobs that begin before a quiet instant: each of them is settled, and none of their runs comes after it. So all runs of
 -- the parts behind come after those of this one.
-use Rattle.std.specs.Prelude.{ℕ, zero, suc, ◌+◌, ◌%◌, List, [], ◌∷◌, ◌++◌, map, filter, length, sum_by, count_by, max, Bool, true, false, not, ◌==◌, ◌&&◌, ◌||◌, nat_lt, nat_le, if◌then◌else◌, Option, Some, None, is_some}
+use Rattle.std.specs.Prelude.{ℕ, zero, suc, ◌+◌, ◌%◌, List, [], ◌∷◌, ◌++◌, map, filter, length, sum_by, count_by, max, Bool, true, false, not, ◌==◌, ◌&&◌, ◌||◌, nat_lt, nat_le, if◌then◌else◌, Option, Some, None, is_some, is_none}
 use Rattle.std.specs.List.{list_any, list_all}
 use Rattle.yds_kernel.specs.declared.loss.Since.TheVariants as since
 use Rattle.yds_kernel.specs.Event.{Said, Stamped, Lost, Nothing, Event, Happening, Switch, WakeUp, Thread}
@@ -14,11 +14,11 @@ use Rattle.yds_trace.specs.declared.job.End.{End}
 use Rattle.yds_trace.specs.declared.job.End.TheVariants as ends
 use Rattle.yds_trace.specs.declared.limits.TheConstants.{LOOK_EVERY, PART_JOBS, PART_STRETCHES, PART_OTHERS, WAITING_JOBS, WAITING_STRETCHES, WAITING_OTHERS}
 use Rattle.yds_trace.specs.Asked.{Asked, task_at, task_of, on, is_before_to}
-use Rattle.yds_trace.specs.Past.{last_time, lost_since, is_loss, whole_since, has_switched, up_to}
+use Rattle.yds_trace.specs.Past.{processor_count, last_time, lost_since, is_loss, lines_since, has_switched, up_to}
 use Rattle.yds_trace.specs.Jobs.{Job, Known, known_after}
 use Rattle.yds_trace.specs.Late.{last_asked}
 use Rattle.yds_trace.specs.Document.{Judged, all_judged, has_run_on, stands}
-use Rattle.yds_trace.specs.Faults.{has_wake_up}
+use Rattle.yds_trace.specs.Faults.{missing_at}
 use Rattle.yds_trace.specs.Others.{Span, others_from}
 
 -- # Which jobs a document has
@@ -51,20 +51,16 @@ abbrev pub last_begin : List Job → ℕ
 last_begin [] = 0
 last_begin (job ∷ jobs) = job.begin
 
-abbrev pub last_begin_of : Asked → List Said → ℕ → ℕ
-last_begin_of asked past number = last_begin (known_after asked number (up_to asked.to past)).jobs
-
--- Its end is known, or nothing more will be known of it: events were lost, or its thread left unseen and has begun another job since.
-abbrev pub is_over : ℕ → Bool → End → Bool
-is_over last followed ends.Open = false
-is_over last followed (ends.Ended end) = true
-is_over last followed (ends.Unseen since goes_on) = followed
-is_over last followed (ends.Lost since) = nat_lt since last
+-- Its end is known, or nothing more will be known of it: events were lost, and its deadline is over.
+abbrev pub is_over : ℕ → ℕ → End → Bool
+is_over last due ends.Open = false
+is_over last due (ends.Ended end) = true
+is_over last due (ends.Lost since) = nat_lt since last && nat_le due last
 
 -- It is over, and no wake-up can go on with it.
 abbrev pub is_settled : Asked → List Said → Judged → Bool
 is_settled asked past judged =
-    is_over (last_asked asked past) (nat_lt judged.job.begin (last_begin_of asked past judged.task)) judged.job.end
+    is_over (last_asked asked past) judged.due judged.job.end
     && nat_le (judged.job.begin + (task_at asked judged.task).apart) (last_time past)
 
 -- # Where a part may end
@@ -138,10 +134,6 @@ is_too_much waiting others =
 abbrev pub is_due : List Said → Bool
 is_due past = length past % LOOK_EVERY == 0
 
--- Where jobs begin at wake-ups, none is written before the first wake-up of a task.
-abbrev pub may_write : Asked → List Said → Bool
-may_write asked past = asked.begin_at_run || has_wake_up asked past
-
 -- before the first part
 abbrev pub no_cut : Cut
 no_cut = record { boundary = 0; decided = 0; parts = 0; jobs = 0; due = 0 }
@@ -165,7 +157,7 @@ part_until asked past cut until = of_part asked until (waiting asked past cut)
 -- where the part ends that is written behind these lines, if one is
 abbrev pub place_of : Asked → List Said → Cut → Option ℕ
 place_of asked past cut =
-    if is_due past && may_write asked past && is_much (waiting asked past cut) (others_from asked past cut.boundary)
+    if is_due past && is_much (waiting asked past cut) (others_from asked past cut.boundary)
     then place_among asked past (waiting asked past cut) else None
 
 abbrev pub greatest_due : ℕ → List Judged → ℕ
@@ -205,7 +197,7 @@ reaches_back cut time = nat_lt time cut.decided
 abbrev pub was_there_before : Asked → List Said → Cut → Event → Happening → Bool
 was_there_before asked past cut event (Switch previous state next) =
     is_some (task_of asked.tasks previous) && not (has_switched event.processor (up_to asked.to past))
-    && nat_lt (whole_since event.time (up_to asked.to past)) cut.boundary
+    && nat_lt (lines_since event.processor event.time (up_to asked.to past)) cut.boundary
 was_there_before asked past cut event _ = false
 
 abbrev pub has_ended : List Job → Bool
@@ -213,7 +205,6 @@ has_ended [] = false
 has_ended (job ∷ jobs) = elim job.end [
   | ends.Open ↦ false
   | ends.Ended end ↦ true
-  | ends.Unseen last goes_on ↦ false
   | ends.Lost last ↦ false
 ]
 
@@ -236,17 +227,29 @@ is_known_so asked past thread test = elim (task_of asked.tasks thread) [
 abbrev pub wakes_at : Asked → Event → Bool
 wakes_at asked event = is_before_to asked.to event.time && not asked.begin_at_run
 
--- Such a thread comes, or that wake-up is done: its last job goes on, or another one began before that end.
+-- The same of a thread that isn't seen to have a processor.
+abbrev pub came_before : ℕ → Known → Bool
+came_before boundary known = is_none known.on && woken_before boundary known
+
+-- Such a thread comes, or leaves without having come, or that wake-up is done: its last job goes on, or another one began before that end.
 abbrev pub came_back : Asked → List Said → Cut → Event → Happening → Bool
-came_back asked past cut event (Switch previous state next) = wakes_at asked event && is_known_so asked past next (sleeps_before cut.boundary)
+came_back asked past cut event (Switch previous state next) =
+    wakes_at asked event
+    && (is_known_so asked past previous (came_before cut.boundary) || is_known_so asked past next (sleeps_before cut.boundary))
 came_back asked past cut event (WakeUp thread starts) =
     wakes_at asked event && (not starts && is_known_so asked past thread (woken_before cut.boundary))
 came_back asked past cut event _ = false
 
+-- Switches are missing since a time before the last part was written.
+abbrev pub reaches_back_so : Cut → Option ℕ → Bool
+reaches_back_so cut None = false
+reaches_back_so cut (Some time) = reaches_back cut time
+
 abbrev pub changes_parts : Asked → List Said → Cut → Said → Bool
 changes_parts asked past cut (Stamped event) =
     (is_loss event.happening && reaches_back cut (lost_since event.processor since.ItsLastLine past))
-    || (was_there_before asked past cut event event.happening || came_back asked past cut event event.happening)
+    || (reaches_back_so cut (missing_at asked past event)
+    || (was_there_before asked past cut event event.happening || came_back asked past cut event event.happening))
 changes_parts asked past cut (Lost processor reach) = reaches_back cut (lost_since processor reach past)
 changes_parts asked past cut Nothing = false
 
@@ -259,17 +262,6 @@ abbrev pub part_fault : Asked → List Said → Cut → Said → Option Cause
 part_fault asked past cut said = if changes_parts asked past cut said then Some causes.PartWritten else None
 
 -- # Processors
-
--- the number behind that of the processor of which a line tells
-abbrev pub next_processor : Said → ℕ
-next_processor (Stamped event) = event.processor + 1
-next_processor (Lost processor reach) = processor + 1
-next_processor Nothing = 0
-
--- Processor 0 has documents in any case, and each one up to the greatest of which a line tells.
-abbrev pub processor_count : List Said → ℕ
-processor_count [] = 1
-processor_count (said ∷ past) = max (next_processor said) (processor_count past)
 
 -- 0, 1, .., so many of them
 abbrev pub first_numbers : ℕ → List ℕ

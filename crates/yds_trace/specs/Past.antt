@@ -1,10 +1,10 @@
 -- What the lines of a trace said before: the last one stands first. A line's past is what the lines before it said.
-use Rattle.std.specs.Prelude.{ℕ, List, [], ◌∷◌, Bool, true, false, not, ◌==◌, ◌&&◌, if◌then◌else◌, Option, Some, None, unwrap_or, nat_lt, nat_le}
+use Rattle.std.specs.Prelude.{ℕ, ◌+◌, max, List, [], ◌∷◌, Bool, true, false, not, ◌==◌, ◌&&◌, if◌then◌else◌, Option, Some, None, is_some, unwrap_or, nat_lt, nat_le}
 use Rattle.yds_kernel.specs.declared.state.State.TheVariants as states
 use Rattle.yds_kernel.specs.declared.loss.Since.{Since}
 use Rattle.yds_kernel.specs.declared.loss.Since.TheVariants as since
-use Rattle.yds_trace.specs.Asked.{Start, start_of}
-use Rattle.yds_kernel.specs.Event.{Happening, Switch, Speed, Loss, Said, Stamped, Lost, Nothing, Event}
+use Rattle.yds_trace.specs.Asked.{Start, start_of, lost_speed}
+use Rattle.yds_kernel.specs.Event.{Thread, Happening, Switch, Speed, Loss, Said, Stamped, Lost, Nothing, Event}
 
 -- # Times
 
@@ -29,6 +29,19 @@ last_time_on processor (Stamped event ∷ past) = if event.processor == processo
 last_time_on processor (Lost other reach ∷ past) = last_time_on processor past
 last_time_on processor (Nothing ∷ past) = last_time_on processor past
 
+-- # Processors
+
+-- the number behind that of the processor of which a line tells
+abbrev pub next_processor : Said → ℕ
+next_processor (Stamped event) = event.processor + 1
+next_processor (Lost processor reach) = processor + 1
+next_processor Nothing = 0
+
+-- Processor 0 has documents in any case, and each one up to the greatest of which a line tells.
+abbrev pub processor_count : List Said → ℕ
+processor_count [] = 1
+processor_count (said ∷ past) = max (next_processor said) (processor_count past)
+
 -- # Losses
 
 -- Since when a processor's events were lost, that says so after this past: since its last line, or since the trace's begin.
@@ -40,25 +53,41 @@ abbrev pub is_loss : Happening → Bool
 is_loss Loss = true
 is_loss _ = false
 
--- The time of the first line after the last loss of events, or of the trace: nothing was lost since then. `here` where there is none.
-abbrev pub whole_since : ℕ → List Said → ℕ
-whole_since here [] = here
-whole_since here (Stamped event ∷ past) = if is_loss event.happening then here else whole_since event.time past
-whole_since here (Lost processor reach ∷ past) = here
-whole_since here (Nothing ∷ past) = whole_since here past
+-- The time of a processor's first line since events were last lost, or since the trace's begin; `here` where there is none.
+abbrev pub lines_since : ℕ → ℕ → List Said → ℕ
+lines_since processor here [] = here
+lines_since processor here (Stamped event ∷ past) =
+    if is_loss event.happening then here else lines_since processor (if event.processor == processor then event.time else here) past
+lines_since processor here (Lost other reach ∷ past) = here
+lines_since processor here (Nothing ∷ past) = lines_since processor here past
 
 abbrev pub is_switch : Happening → Bool
 is_switch (Switch previous state next) = true
 is_switch _ = false
 
--- whether a processor has switched since then
+-- when a processor switched last, since events were lost
+abbrev pub last_switch : ℕ → List Said → Option ℕ
+last_switch processor [] = None
+last_switch processor (Stamped event ∷ past) =
+    if is_loss event.happening then None
+    else (if is_switch event.happening && (event.processor == processor) then Some event.time else last_switch processor past)
+last_switch processor (Lost other reach ∷ past) = None
+last_switch processor (Nothing ∷ past) = last_switch processor past
+
 abbrev pub has_switched : ℕ → List Said → Bool
-has_switched processor [] = false
-has_switched processor (Stamped event ∷ past) =
-    if is_loss event.happening then false
-    else (if is_switch event.happening then (if event.processor == processor then true else has_switched processor past) else has_switched processor past)
-has_switched processor (Lost other reach ∷ past) = false
-has_switched processor (Nothing ∷ past) = has_switched processor past
+has_switched processor past = is_some (last_switch processor past)
+
+-- Who has a processor: who came to it by its last switch since events were lost.
+abbrev pub has_it : ℕ → Event → Happening → Option Thread → Option Thread
+has_it processor event (Switch previous state next) before = if event.processor == processor then Some next else before
+has_it processor event Loss before = None
+has_it processor event _ before = before
+
+abbrev pub who_has : ℕ → List Said → Option Thread
+who_has processor [] = None
+who_has processor (Stamped event ∷ past) = has_it processor event event.happening (who_has processor past)
+who_has processor (Lost other reach ∷ past) = None
+who_has processor (Nothing ∷ past) = who_has processor past
 
 -- # What is asked for
 
@@ -96,14 +125,14 @@ up_to (Some to) past = up_to_time to past
 -- # Speeds
 
 -- A processor's speed after these lines, in kilohertz: that of its last change. Before its first change it is that of `start`; after lost
--- events it isn't known, as a change may be among them.
+-- events it isn't known, as a change may be among them, unless it is the same throughout.
 abbrev pub speed_told : Start → ℕ → Happening → Option ℕ → Option ℕ
 speed_told start processor (Speed other khz) before = if other == processor then Some khz else before
-speed_told start processor Loss before = None
+speed_told start processor Loss before = lost_speed start
 speed_told start processor _ before = before
 
 abbrev pub speed_after : Start → ℕ → List Said → Option ℕ
 speed_after start processor [] = start_of start processor
 speed_after start processor (Stamped event ∷ past) = speed_told start processor event.happening (speed_after start processor past)
-speed_after start processor (Lost other reach ∷ past) = None
+speed_after start processor (Lost other reach ∷ past) = lost_speed start
 speed_after start processor (Nothing ∷ past) = speed_after start processor past

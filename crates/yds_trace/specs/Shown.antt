@@ -9,7 +9,6 @@ use Rattle.yds_trace.specs.Past.{first_time, last_time}
 use Rattle.yds_trace.specs.Jobs.{Job}
 use Rattle.yds_trace.specs.Document.{jobs_of, shares_of, began_before}
 use Rattle.yds_trace.specs.Others.{goes_behind, others_from}
-use Rattle.yds_trace.specs.Parts.{last_begin_of}
 use Rattle.yds_trace.specs.Tally.{tally_of}
 use Rattle.yds_trace.specs.Views.{job_read, span_read}
 
@@ -20,7 +19,6 @@ pub record IsShownTask (all : List Job) (asked : Asked) (past : List Said) (boun
   pub earlier : All (λ job. job.begin < boundary) forgotten
   pub as_many : shown.forgotten ≡ length forgotten
   pub before : shown.before ≡ began_before (jobs_of asked past number)
-  pub last : shown.last_begin ≡ last_begin_of asked past number
 
 pub record AreShown (jobs : ℕ → List Job) (asked : Asked) (past : List Said) (boundary : ℕ) (shown : Shown) : Type 0 where
   pub as_many : length shown.tasks.items ≡ length asked.tasks

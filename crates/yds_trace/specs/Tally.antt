@@ -1,13 +1,14 @@
--- What a trace lacks, or says that a reader should know, beside the jobs: four counts of its lines, within what is asked for.
-use Rattle.std.specs.Prelude.{ℕ, suc, ◌-◌, List, [], ◌∷◌, Bool, true, false, not, ◌==◌, ◌&&◌, nat_lt, if◌then◌else◌, Option, Some, None, is_none}
-use Rattle.yds_kernel.specs.Event.{Thread, Happening, Switch, Marker, Said, Stamped, Lost, Nothing}
+-- What a trace lacks, or says that a reader should know, beside the jobs: five counts of its lines, within what is asked for.
+use Rattle.std.specs.Prelude.{ℕ, zero, suc, ◌-◌, List, [], ◌∷◌, Bool, true, false, not, ◌==◌, ◌&&◌, ◌||◌, nat_lt, if◌then◌else◌, Option, Some, None, is_none}
+use Rattle.yds_kernel.specs.Event.{Thread, Happening, Switch, Marker, Event, Said, Stamped, Lost, Nothing}
 use Rattle.yds_kernel.specs.Parts.{capped}
 use Rattle.yds_trace.specs.declared.tally.Pause.{Pause}
+use Rattle.yds_trace.specs.declared.tally.Silence.{Silence}
 use Rattle.yds_trace.specs.declared.tally.Tally.{Tally}
 use Rattle.yds_trace.specs.Asked.{Task, Asked, task_of, is_before_to, is_after_from}
-use Rattle.yds_trace.specs.Past.{last_time}
-use Rattle.yds_trace.specs.Faults.{lost_just_before, is_behind_loss, has_stamp}
-use Rattle.yds_trace.specs.Others.{who_has}
+use Rattle.yds_trace.specs.Past.{processor_count, last_time, last_time_on, who_has}
+use Rattle.yds_trace.specs.Late.{last_asked}
+use Rattle.yds_trace.specs.Faults.{lost_just_before, is_behind_loss, is_behind_missing, has_stamp}
 
 -- at a time from `from` to `to`
 abbrev pub is_asked_for : Option ℕ → Option ℕ → ℕ → Bool
@@ -19,15 +20,19 @@ one_more test number = if test then suc number else number
 
 -- # Places where events were lost
 
-abbrev pub losses_before : Option ℕ → Option ℕ → List Said → ℕ
-losses_before from to [] = 0
-losses_before from to (Stamped event ∷ past) = one_more (is_behind_loss from to past event) (losses_before from to past)
-losses_before from to (Lost processor reach ∷ past) = losses_before from to past
-losses_before from to (Nothing ∷ past) = losses_before from to past
+-- Such a place is one where they are said to be, or where switches of tasks are missing.
+abbrev pub is_gap : Asked → List Said → Event → Bool
+is_gap asked past event = is_behind_loss asked.from asked.to past event || is_behind_missing asked past event
+
+abbrev pub losses_before : Asked → List Said → ℕ
+losses_before asked [] = 0
+losses_before asked (Stamped event ∷ past) = one_more (is_gap asked past event) (losses_before asked past)
+losses_before asked (Lost processor reach ∷ past) = losses_before asked past
+losses_before asked (Nothing ∷ past) = losses_before asked past
 
 -- The end of the trace is one too, where events are said to be lost just before.
-abbrev pub losses : Option ℕ → Option ℕ → List Said → ℕ
-losses from to past = one_more (lost_just_before to past) (losses_before from to past)
+abbrev pub losses : Asked → List Said → ℕ
+losses asked past = one_more (lost_just_before asked.to past) (losses_before asked past)
 
 -- # Switches that are missing
 
@@ -81,13 +86,44 @@ longest_pause from to (Stamped event ∷ past) =
 longest_pause from to (Lost processor reach ∷ past) = longest_pause from to past
 longest_pause from to (Nothing ∷ past) = longest_pause from to past
 
--- # All four
+-- # Silence at the end
+
+-- The idle thread has it, and is no task.
+abbrev pub is_idle : List Task → Option Thread → Bool
+is_idle tasks None = false
+is_idle tasks (Some thread) = (thread.pid == 0) && is_none (task_of tasks thread)
+
+abbrev pub no_silence : Silence
+no_silence = record { processor = 0; since = 0; lasted = 0 }
+
+-- The time from a processor's last line to the end of what is asked for, and when it began. It is none of a processor that was left idle.
+abbrev pub silence_on : Asked → List Said → ℕ → Silence
+silence_on asked past processor = elim (last_time_on processor past) [
+  | None ↦ no_silence
+  | Some last ↦ if is_idle asked.tasks (who_has processor past) then no_silence
+      else record { processor = processor; since = last; lasted = last_asked asked past - last }
+]
+
+-- the longer one, or the first of equal ones
+abbrev pub longer_silence : Silence → Silence → Silence
+longer_silence one other = if nat_lt one.lasted other.lasted then other else one
+
+-- the longest of so many processors
+abbrev pub silence_below : Asked → List Said → ℕ → Silence
+silence_below asked past zero = no_silence
+silence_below asked past (suc processor) = longer_silence (silence_below asked past processor) (silence_on asked past processor)
+
+abbrev pub silence : Asked → List Said → Silence
+silence asked past = silence_below asked past (processor_count past)
+
+-- # All five
 
 -- Beyond 64 bits none is counted.
 abbrev pub tally_of : Asked → List Said → Tally
 tally_of asked past = record {
-  losses = capped (losses asked.from asked.to past);
+  losses = capped (losses asked past);
   missing = capped (missing_switches asked.from asked.to asked.tasks past);
   markers = capped (markers asked.from asked.to past);
   pause = longest_pause asked.from asked.to past;
+  silence = silence asked past;
 }

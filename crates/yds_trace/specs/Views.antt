@@ -13,7 +13,7 @@ use Rattle.yds_trace.specs.declared.others.Another.{Another as AnotherKept}
 use Rattle.yds_trace.specs.declared.others.Going.{Going as GoingKept}
 use Rattle.yds_trace.specs.declared.others.Span.{Span as SpanKept}
 use Rattle.yds_kernel.specs.Event.{Thread}
-use Rattle.yds_trace.specs.Asked.{Which, Named, Numbered, Task, StartSpeed, Start, Same, Listed, Asked}
+use Rattle.yds_trace.specs.Asked.{Which, Named, Numbered, Task, StartSpeed, Start, Fixed, Same, Listed, Asked}
 use Rattle.yds_trace.specs.Jobs.{Job, Known}
 use Rattle.yds_trace.specs.Others.{Span, Going}
 
@@ -21,6 +21,7 @@ abbrev pub job_read : JobKept → Job
 job_read job = record {
   begin = job.begin;
   begin_known = job.begin_known;
+  due_from = job.due_from;
   end = job.end;
   stretches = reverse job.stretches.items;
   wake_ups = job.wake_ups;
@@ -43,12 +44,13 @@ which_read (whiches.Named name) = Named name.items
 which_read (whiches.Numbered pid) = Numbered pid
 
 abbrev pub task_read : TaskKept → Task
-task_read task = record { label = task.label.items; thread = which_read task.thread; deadline = task.deadline; apart = task.apart }
+task_read task = record { label = task.label.items; thread = which_read task.thread; deadline = task.deadline; apart = task.apart; period = task.period }
 
 abbrev pub speed_read : StartSpeedKept → StartSpeed
 speed_read speed = record { processor = speed.processor; khz = speed.khz }
 
 abbrev pub start_read : StartKept → Start
+start_read (starts.Fixed khz) = Fixed khz
 start_read (starts.Same khz) = Same khz
 start_read (starts.Listed speeds) = Listed (map speed_read speeds.items)
 

@@ -20,6 +20,8 @@ pub struct Task {
     pub deadline: u64,
     /// A wake-up that comes less than so long after a job's begin goes on with that job; with 0 none does.
     pub apart: u64,
+    /// A job is due no later than so long behind the one before it; with 0 it is due by its own begin alone.
+    pub period: u64,
 }
 
 /// A processor's speed before its first change.
@@ -34,6 +36,8 @@ pub struct StartSpeed {
 /// The speeds before the first change.
 #[derive(Debug, Drop)]
 pub enum Start {
+    /// Each processor has this one throughout, in kilohertz: no line tells another, and what was lost has no change.
+    Fixed(u64),
     /// Each processor has this one, in kilohertz.
     Same(u64),
     /// These have theirs, and of no other it is known. Of a processor that stands there twice the first counts.

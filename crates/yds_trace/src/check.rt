@@ -1,12 +1,12 @@
 //! What a line, or a whole trace, is refused for.
-ghost use Rattle.std.specs.Prelude.{◌≡◌, List, false};
+ghost use Rattle.std.specs.Prelude.{◌≡◌, ◌||◌, List, false};
 ghost use Rattle.yds_kernel.specs.Event as trace;
 ghost use Rattle.yds_kernel.specs.declared.state.State.{State};
 ghost use Rattle.yds_kernel.specs.Views.{event_read, said_read, thread_read};
 ghost use Rattle.yds_trace.specs.Faults as spec;
 ghost use Rattle.yds_trace.specs.Finding.{first_found, second_found};
 ghost use Rattle.yds_trace.specs.Kept.{IsCounted, IsLines};
-ghost use Rattle.yds_trace.specs.Parts.{came_back, changes_parts, part_fault, wakes_at, was_there_before};
+ghost use Rattle.yds_trace.specs.Parts.{came_back, came_before, changes_parts, is_known_so, part_fault, reaches_back_so, sleeps_before, wakes_at, was_there_before};
 ghost use Rattle.yds_trace.specs.Passing.{fault_in};
 ghost use Rattle.yds_trace.specs.Past.{up_to};
 ghost use Rattle.yds_trace.specs.Views.{asked_read};
@@ -15,10 +15,10 @@ use crate::asked::Asked;
 use crate::counted::Counted;
 use crate::cut::Cut;
 use crate::fault::Cause;
-use crate::find::{Found, find};
+use crate::find::{Found, find, find_first, find_second};
 use crate::limits::{MAX_PROCESSOR, MAX_TIME};
 use crate::lines::Lines;
-use crate::within::is_before_to;
+use crate::within::{is_before_to, is_behind_from};
 use yds_kernel::{Event, Happening, Said, Since, Thread};
 
 /// What an event is refused for, whatever stands before it.
@@ -75,7 +75,33 @@ fn check_threads(
         return Err(Cause::TimeGoesBack);
     }
     let needs_wake_ups = !asked.cut_losses && !asked.begin_at_run;
-    counted.check(needs_wake_ups, &event.happening, first, second)
+    counted.check(
+        &asked.start,
+        needs_wake_ups,
+        &event.happening,
+        first,
+        second,
+    )
+}
+
+/// What an event is refused for where the trace is to be whole: switches of tasks are missing since a time, or none are.
+fn check_loss(
+    asked: &Asked,
+    lines: &Lines,
+    event: &Event<'_>,
+    missing: Option<u64>,
+) -> Result<(), Cause>
+    ensures { (past : List trace.Said) → IsLines (asked_read asked.now) past lines.now
+        → missing ≡ spec.missing_at (asked_read asked.now) past (event_read event.now)
+        → fault_in result ≡ spec.loss_fault (asked_read asked.now) past (event_read event.now) }
+{
+    if is_torn(asked, lines, event) {
+        return Err(Cause::EventsLost);
+    }
+    if !asked.cut_losses && missing.is_some() && is_behind_from(asked.from, event.time) {
+        return Err(Cause::LineMissing);
+    }
+    Ok(())
 }
 
 /// What an event is refused for by the lines before it, but for how many of them tell of the tasks.
@@ -86,18 +112,17 @@ pub(crate) fn check_event(
     event: &Event<'_>,
     first: Found,
     second: Found,
+    missing: Option<u64>,
 ) -> Result<(), Cause>
     ensures { (past : List trace.Said) → IsLines (asked_read asked.now) past lines.now
         → IsCounted (asked_read asked.now) (up_to asked.now.to past) counted.now
         → first ≡ first_found (asked_read asked.now).tasks (event_read event.now).happening
         → second ≡ second_found (asked_read asked.now).tasks (event_read event.now).happening
+        → missing ≡ spec.missing_at (asked_read asked.now) past (event_read event.now)
         → fault_in result ≡ spec.behind_fault (asked_read asked.now) past (event_read event.now) }
 {
     check_threads(asked, lines, counted, event, first, second)?;
-    if is_torn(asked, lines, event) {
-        return Err(Cause::EventsLost);
-    }
-    Ok(())
+    check_loss(asked, lines, event, missing)
 }
 
 /// What a trace is refused for whose lines are all taken.
@@ -111,13 +136,10 @@ pub(crate) fn check_whole(asked: &Asked, lines: &Lines) -> Result<(), Cause>
     if !asked.cut_losses && lines.lost {
         return Err(Cause::EventsLost);
     }
-    if let Some(number) = lines.unseen() {
-        return Err(Cause::Unseen(number));
+    match lines.unseen() {
+        Some(number) => Err(Cause::Unseen(number)),
+        None => Ok(()),
     }
-    if asked.begin_at_run || lines.woken {
-        return Ok(());
-    }
-    Err(Cause::NoWakeUp)
 }
 
 /// What a line is refused for behind the parts that are written.
@@ -164,14 +186,45 @@ fn changes_by(asked: &Asked, lines: &Lines, counted: &Counted, event: &Event<'_>
             lines.past.lost_since(event.processor, Since::ItsLastLine) < cut.decided
         }
         Happening::Switch { previous, next, .. } => {
-            was_there(asked, counted, event, previous, cut)
-                || comes_back(asked, counted, event, next, cut)
+            are_missing_before(asked, counted, event, cut)
+                || goes_back(asked, counted, event, previous, next, cut)
         }
         Happening::WakeUp { thread, starts } => {
             !starts && is_woken_back(asked, counted, event, thread, cut)
         }
         Happening::Speed { .. } | Happening::Marker | Happening::Other => false,
     }
+}
+
+/// Whether switches of tasks are missing before an event since a time before the last part was written.
+fn are_missing_before(asked: &Asked, counted: &Counted, event: &Event<'_>, cut: Cut) -> bool
+    ensures { (past : List trace.Said) → IsCounted (asked_read asked.now) (up_to asked.now.to past) counted.now
+        → result ≡ reaches_back_so cut (spec.missing_at (asked_read asked.now) past (event_read event.now)) }
+{
+    let first = find_first(&asked.tasks, &event.happening);
+    let second = find_second(&asked.tasks, &event.happening);
+    match counted.missing_at(asked, event, first, second) {
+        Some(time) => time < cut.decided,
+        None => false,
+    }
+}
+
+/// Whether a thread that leaves or comes by a switch changes what is known of jobs that are written.
+fn goes_back(
+    asked: &Asked,
+    counted: &Counted,
+    event: &Event<'_>,
+    previous: Thread<'_>,
+    next: Thread<'_>,
+    cut: Cut,
+) -> bool
+    ensures { (past : List trace.Said) → IsCounted (asked_read asked.now) (up_to asked.now.to past) counted.now
+        → (state : State)
+        → result ≡ (was_there_before (asked_read asked.now) past cut (event_read event.now) (trace.Switch (thread_read previous.entry) state (thread_read next.entry))
+        || came_back (asked_read asked.now) past cut (event_read event.now) (trace.Switch (thread_read previous.entry) state (thread_read next.entry))) }
+{
+    was_there(asked, counted, event, previous, cut)
+        || comes_back(asked, counted, event, previous, next, cut)
 }
 
 /// Whether a listed thread leaves a processor that it may have had since before the parts that wait.
@@ -192,23 +245,45 @@ fn was_there(
         && find(&asked.tasks, previous).whose().number.is_some()
 }
 
-/// Whether a listed thread comes behind a sleep without a wake-up since, whose last job began before the parts that wait.
+/// Whether a listed thread comes behind a sleep without a wake-up since, whose last job began before the parts that wait, or one leaves
+/// without having come, with a wake-up that was started before that sleep.
 fn comes_back(
     asked: &Asked,
     counted: &Counted,
     event: &Event<'_>,
+    previous: Thread<'_>,
     next: Thread<'_>,
     cut: Cut,
 ) -> bool
     ensures { (past : List trace.Said) → IsCounted (asked_read asked.now) (up_to asked.now.to past) counted.now
-        → (previous : trace.Thread) (state : State)
-        → result ≡ came_back (asked_read asked.now) past cut (event_read event.now) (trace.Switch previous state (thread_read next.entry)) }
+        → (state : State)
+        → result ≡ came_back (asked_read asked.now) past cut (event_read event.now) (trace.Switch (thread_read previous.entry) state (thread_read next.entry)) }
 {
     wakes_at(asked, event)
-        && match find(&asked.tasks, next).whose().number {
-            Some(number) => counted.sleeps_before(number, cut.boundary),
-            None => false,
-        }
+        && (is_back(asked, counted, previous, cut) || comes_again(asked, counted, next, cut))
+}
+
+/// Whether a listed thread isn't seen to have a processor, and a wake-up was started before it left to sleep, whose last job began before the
+/// parts that wait.
+fn is_back(asked: &Asked, counted: &Counted, thread: Thread<'_>, cut: Cut) -> bool
+    ensures { (past : List trace.Said) → IsCounted (asked_read asked.now) (up_to asked.now.to past) counted.now
+        → result ≡ is_known_so (asked_read asked.now) past (thread_read thread.entry) (came_before cut.boundary) }
+{
+    match find(&asked.tasks, thread).whose().number {
+        Some(number) => counted.came_before(number, cut.boundary),
+        None => false,
+    }
+}
+
+/// Whether a listed thread left to sleep without a wake-up since, whose last job began before the parts that wait.
+fn comes_again(asked: &Asked, counted: &Counted, thread: Thread<'_>, cut: Cut) -> bool
+    ensures { (past : List trace.Said) → IsCounted (asked_read asked.now) (up_to asked.now.to past) counted.now
+        → result ≡ is_known_so (asked_read asked.now) past (thread_read thread.entry) (sleeps_before cut.boundary) }
+{
+    match find(&asked.tasks, thread).whose().number {
+        Some(number) => counted.sleeps_before(number, cut.boundary),
+        None => false,
+    }
 }
 
 /// Whether the wake-up of a listed thread is done that was started before it left to sleep, and its last job began before the parts that wait.

@@ -1,5 +1,5 @@
 //! What is kept of the lines that count: those up to the end of what is asked for.
-ghost use Rattle.std.specs.Prelude.{◌≡◌, ℕ, ◌<◌, ◌≤◌, List, [], ◌∷◌, length, if◌then◌else◌, Option, Some, None, IfOk, OnOk, IfErr, map, is_some, true, false};
+ghost use Rattle.std.specs.Prelude.{◌≡◌, ℕ, ◌<◌, ◌≤◌, List, [], ◌∷◌, length, if◌then◌else◌, Option, Some, None, IfOk, OnOk, IfErr, map, is_some, not, true, false};
 ghost use Rattle.yds_kernel.specs.Event as trace;
 ghost use Rattle.yds_kernel.specs.Views.{event_read, happening_read};
 ghost use Rattle.yds_trace.specs.Asked as asking;
@@ -7,19 +7,22 @@ ghost use Rattle.yds_trace.specs.declared.fault.Cause.TheVariants as causes;
 ghost use Rattle.yds_trace.specs.Faults as spec;
 ghost use Rattle.yds_trace.specs.Finding.{found, first_found, second_found};
 ghost use Rattle.yds_trace.specs.Following.{some_waits, spans_at, touches_by};
-ghost use Rattle.yds_trace.specs.Jobs.{known_after};
+ghost use Rattle.yds_trace.specs.Jobs.{all_known, known_after, missing_of};
 ghost use Rattle.yds_trace.specs.Kept.{AreOthersOf, IsCounted, IsLines};
 ghost use Rattle.yds_trace.specs.Others.{any_waits};
 ghost use Rattle.yds_trace.specs.Past.{last_time, up_to, counts as spec_counts};
-ghost use Rattle.yds_trace.specs.Steps.{first_in, second_in, step_of};
-ghost use Rattle.yds_trace.specs.Parts.{sleeps_before, woken_before};
+ghost use Rattle.yds_trace.specs.Steps.{first_in, second_in, step_of, whose};
+ghost use Rattle.yds_trace.specs.Parts.{came_before, sleeps_before, woken_before};
 ghost use Rattle.yds_trace.specs.Passing.{IsRefusedFor, fault_in};
-ghost use Rattle.yds_trace.specs.Views.{asked_read, span_read, task_read};
+ghost use Rattle.yds_trace.specs.Views.{asked_read, span_read, start_read, task_read};
 
-use crate::asked::Asked;
+use crate::asked::{Asked, Start};
 use crate::fault::Cause;
 use crate::find::Found;
-use crate::followed::{Followed, any_waits, follow, has_number, lose_each, runs_on, take_each};
+use crate::followed::{
+    Followed, any_waits, follow, has_number, lose_each, missing_among, runs_on, take_each,
+};
+use crate::job::Leaving;
 use crate::jobs::has_exited;
 use crate::limits::MAX_TOUCHES;
 use crate::lines::Lines;
@@ -27,7 +30,7 @@ use crate::others::{Others, Span};
 use crate::past::Past;
 use crate::refused::Refused;
 use crate::step::{Step, Whose};
-use crate::within::is_within_to;
+use crate::within::{is_before_to, is_within_to};
 use base::Memory;
 use std::alloc::Global;
 use yds_kernel::{Event, Happening, Since, State};
@@ -81,7 +84,7 @@ impl Counted {
             → IfErr result (IsRefusedFor (spec.counted_fault (asked_read asked.now) (trace.Stamped (event_read event.now) ∷ counting))) }
         ensures boundary { OnOk result (self.new.boundary ≡ self.old.boundary) }
     {
-        let step = self.past.step(event);
+        let step = self.step(asked, event, first, second);
         let touched = self.touched_by(asked, first, second, step);
         if touched > MAX_TOUCHES {
             return Err(Refused::Fault(Cause::TooLong));
@@ -104,15 +107,102 @@ impl Counted {
             event,
             second,
         )?;
-        self.past.take(event, None)?;
+        self.past.take(event, second.unlisted())?;
         Ok(())
+    }
+
+    /// Since when switches of tasks are missing, before one by which these threads leave and come, if some are.
+    fn missing(&self, wakes: bool, first: Whose, second: Whose, leaving: Leaving) -> Option<u64>
+        ensures { (asked : asking.Asked) (counting : List trace.Said) (previous next : trace.Thread) → IsCounted asked counting self.now
+            → wakes ≡ not asked.begin_at_run → first ≡ whose asked.tasks previous → second ≡ whose asked.tasks next
+            → result ≡ missing_of asked previous next leaving (all_known asked counting) 0 asked.tasks }
+    {
+        missing_among(&self.tasks, wakes, first, second, leaving)
+    }
+
+    /// What an event behind these lines is to a task.
+    fn step(&self, asked: &Asked, event: &Event<'_>, first: Whose, second: Whose) -> Step
+        ensures { (counting : List trace.Said) → IsCounted (asked_read asked.now) counting self.now
+            → first ≡ first_in (asked_read asked.now).tasks (event_read event.now).happening
+            → second ≡ second_in (asked_read asked.now).tasks (event_read event.now).happening
+            → result ≡ step_of (asked_read asked.now) counting (event_read event.now) }
+    {
+        match event.happening {
+            Happening::Switch { state, .. } => {
+                let leaving = self.past.leaving(event, first.pid);
+                Step::Switch {
+                    state,
+                    leaving,
+                    missing: self.missing(!asked.begin_at_run, first, second, leaving),
+                }
+            }
+            Happening::WakeUp { starts, .. } => Step::WakeUp {
+                time: event.time,
+                starts,
+            },
+            Happening::Speed { processor, .. } => Step::Speed {
+                processor,
+                time: event.time,
+                khz: self.past.speed(processor),
+            },
+            Happening::Loss => Step::Loss {
+                since: self.past.lost_since(event.processor, Since::ItsLastLine),
+            },
+            Happening::Marker | Happening::Other => Step::Nothing,
+        }
+    }
+
+    /// Since when switches of tasks are missing before an event, if some are.
+    fn missing_in(
+        &self,
+        asked: &Asked,
+        event: &Event<'_>,
+        first: Whose,
+        second: Whose,
+    ) -> Option<u64>
+        ensures { (counting : List trace.Said) → IsCounted (asked_read asked.now) counting self.now
+            → first ≡ first_in (asked_read asked.now).tasks (event_read event.now).happening
+            → second ≡ second_in (asked_read asked.now).tasks (event_read event.now).happening
+            → result ≡ spec.missing_in (asked_read asked.now) counting (event_read event.now) (event_read event.now).happening }
+    {
+        match event.happening {
+            Happening::Switch { .. } => {
+                let leaving = self.past.leaving(event, first.pid);
+                self.missing(!asked.begin_at_run, first, second, leaving)
+            }
+            Happening::WakeUp { .. }
+            | Happening::Speed { .. }
+            | Happening::Loss
+            | Happening::Marker
+            | Happening::Other => None,
+        }
+    }
+
+    /// The same of an event that counts.
+    pub(crate) fn missing_at(
+        &self,
+        asked: &Asked,
+        event: &Event<'_>,
+        first: Found,
+        second: Found,
+    ) -> Option<u64>
+        ensures { (past : List trace.Said) → IsCounted (asked_read asked.now) (up_to asked.now.to past) self.now
+            → first ≡ first_found (asked_read asked.now).tasks (event_read event.now).happening
+            → second ≡ second_found (asked_read asked.now).tasks (event_read event.now).happening
+            → result ≡ spec.missing_at (asked_read asked.now) past (event_read event.now) }
+    {
+        if is_before_to(asked.to, event.time) {
+            self.missing_in(asked, event, first.whose(), second.whose())
+        } else {
+            None
+        }
     }
 
     /// How many lines tell of the tasks, with an event that is this step. Told in parts they aren't counted.
     fn touched_by(&self, asked: &Asked, first: Whose, second: Whose, step: Step) -> u64
         ensures counted { (counting : List trace.Said) (event : trace.Event) → IsCounted (asked_read asked.now) counting self.now
             → first ≡ first_in (asked_read asked.now).tasks event.happening → second ≡ second_in (asked_read asked.now).tasks event.happening
-            → step ≡ step_of (asked_read asked.now).start counting event → asked.now.in_parts ≡ false
+            → step ≡ step_of (asked_read asked.now) counting event → asked.now.in_parts ≡ false
             → result ≡ spec.touched (asked_read asked.now) (trace.Stamped event ∷ counting) }
         ensures not_counted { asked.now.in_parts ≡ true → result ≡ self.now.touched }
     {
@@ -235,6 +325,17 @@ impl Counted {
         }
     }
 
+    /// The same, where it isn't seen to have a processor.
+    pub(crate) fn came_before(&self, number: usize, boundary: u64) -> bool
+        ensures { (asked : asking.Asked) (counting : List trace.Said) → IsCounted asked counting self.now → number < length asked.tasks
+            → result ≡ came_before boundary (known_after asked number counting) }
+    {
+        match self.tasks.get(number) {
+            Some(followed) => followed.known.came_before(boundary),
+            None => false,
+        }
+    }
+
     /// What a thread that comes is refused for, where its wake-ups aren't recorded.
     fn check_woken(&self, needed: bool, thread: Found) -> Result<(), Cause>
         ensures { (asked : asking.Asked) (counting : List trace.Said) (named : trace.Thread) → IsCounted asked counting self.now
@@ -280,12 +381,14 @@ impl Counted {
     /// What an event not after `to` is refused for: its threads, and the state of who leaves.
     pub(crate) fn check(
         &self,
+        start: &Start,
         needs_wake_ups: bool,
         happening: &Happening<'_>,
         first: Found,
         second: Found,
     ) -> Result<(), Cause>
         ensures { (asked : asking.Asked) (counting : List trace.Said) → IsCounted asked counting self.now
+            → asked.start ≡ start_read start.now
             → needs_wake_ups ≡ spec.needs_wake_ups asked
             → first ≡ first_found asked.tasks (happening_read happening.now)
             → second ≡ second_found asked.tasks (happening_read happening.now)
@@ -302,9 +405,8 @@ impl Counted {
                 self.check_woken(needs_wake_ups, second)
             }
             Happening::WakeUp { .. } => self.check_thread(first),
-            Happening::Speed { .. } | Happening::Loss | Happening::Marker | Happening::Other => {
-                Ok(())
-            }
+            Happening::Speed { khz, .. } => check_speed(start, *khz),
+            Happening::Loss | Happening::Marker | Happening::Other => Ok(()),
         }
     }
 
@@ -467,6 +569,16 @@ fn counts(to: u64, lines: &Lines, event: &Event<'_>) -> bool
         | Happening::Speed { .. }
         | Happening::Marker
         | Happening::Other => event.time <= to,
+    }
+}
+
+/// What a line that tells a speed is refused for, where each processor is said to have one throughout.
+fn check_speed(start: &Start, khz: u64) -> Result<(), Cause>
+    ensures { fault_in result ≡ (if spec.is_other_speed (start_read start.now) khz then Some causes.SpeedChanged else None) }
+{
+    match start {
+        Start::Fixed(fixed) if *fixed != khz => Err(Cause::SpeedChanged),
+        Start::Fixed(_) | Start::Same(_) | Start::Listed(_) => Ok(()),
     }
 }
 

@@ -11,6 +11,10 @@ pub enum Cause {
     TimeGoesBack,
     /// Events were lost before it, or at the trace's end.
     EventsLost,
+    /// A switch of a task's thread is missing before it.
+    LineMissing,
+    /// It tells another speed than the one that each processor is said to have throughout.
+    SpeedChanged,
     /// A listed thread leaves in a state that the kernel doesn't have.
     UnknownState,
     /// A task that is given by its name is another thread than before.
@@ -27,9 +31,7 @@ pub enum Cause {
     NoLine,
     /// No line of the trace names the task of this number.
     Unseen(usize),
-    /// No wake-up of a task is in the trace, and jobs are to begin at wake-ups.
-    NoWakeUp,
-    /// A task's thread comes behind a sleep without a wake-up, for the second time in one job.
+    /// A task's thread comes behind a sleep without a wake-up: twice in one job, or before any wake-up of it.
     NotWoken,
     /// It changes what is known of jobs that stand in a part which was written.
     PartWritten,

@@ -4,13 +4,14 @@ ghost use Rattle.std.specs.List.{list_any, All};
 ghost use Rattle.yds_kernel.specs.Parts.{or_else, capped};
 ghost use Rattle.yds_trace.specs.declared.followed.Followed.{Followed};
 ghost use Rattle.yds_trace.specs.Asked.{is_number};
-ghost use Rattle.yds_trace.specs.Following.{IsUnknown, IsTaken, IsLost, Forgets, apart_of, place_of, first_before, jobs_in, stretches_of, some_waits};
-ghost use Rattle.yds_trace.specs.Jobs.{stands_on};
+ghost use Rattle.yds_trace.specs.Following.{IsUnknown, IsTaken, IsLost, Forgets, pace_at, missing_among, place_of, first_before, jobs_in, stretches_of, some_waits};
+ghost use Rattle.yds_trace.specs.Jobs.{earlier, stands_on};
 ghost use Rattle.yds_trace.specs.Others.{is_waiting};
 ghost use Rattle.yds_trace.specs.Steps.{stepped, pid_of};
 ghost use Rattle.yds_trace.specs.Views.{known_read};
 
 use crate::asked::Task;
+use crate::job::{Leaving, Pace};
 use crate::jobs::{began_before, count_stretches, drop_first, early, has_open_job};
 use crate::known::{Known, stands_on};
 use crate::step::{Place, Step, Whose};
@@ -41,7 +42,7 @@ impl Followed {
         event: &Telling,
     ) -> Result<(), Memory>
         requires { event.now.place ≡ place_of event.now.step }
-        ensures { OnOk result (IsTaken (apart_of asked.now number) wakes (pid_of number event.now.first) (pid_of number event.now.second)
+        ensures { OnOk result (IsTaken (pace_at asked.now number) wakes (pid_of number event.now.first) (pid_of number event.now.second)
             event.now.step self.old self.new) }
     {
         let first = event.first.pid_of(number);
@@ -49,10 +50,10 @@ impl Followed {
         if first.is_none() && second.is_none() && !event.place.is_at(self.known.on) {
             return Ok(());
         }
-        let apart = apart_of(asked, number);
+        let pace = pace_at(asked, number);
         self.known.step(
             alloc,
-            apart,
+            pace,
             wakes,
             first.is_some(),
             second.is_some(),
@@ -141,6 +142,16 @@ struct Telling {
 }
 
 impl Whose {
+    /// Whether it is the task of this number.
+    fn is(self, number: usize) -> bool
+        ensures { result ≡ is_number number self.number }
+    {
+        match self.number {
+            Some(other) => other == number,
+            None => false,
+        }
+    }
+
     /// The number of the thread, where it is the task of this number.
     fn pid_of(self, number: usize) -> Option<u64>
         ensures { result ≡ pid_of number self }
@@ -170,13 +181,51 @@ pub(crate) fn follow(alloc: Global, count: usize) -> Result<Vec<Followed>, Memor
     Ok(tasks)
 }
 
-/// A wake-up that comes less than so long after the begin of a job of this task goes on with that job.
-fn apart_of(asked: &[Task], number: usize) -> u64
-    ensures { result ≡ apart_of asked.now number }
+/// Which wake-ups begin a job of this task, and when that is due.
+fn pace_at(asked: &[Task], number: usize) -> Pace
+    ensures { result ≡ pace_at asked.now number }
 {
     match asked.get(number) {
-        Some(task) => task.apart,
-        None => 0,
+        Some(task) => Pace {
+            apart: task.apart,
+            period: task.period,
+        },
+        None => Pace {
+            apart: 0,
+            period: 0,
+        },
+    }
+}
+
+/// Since when switches of these tasks are missing, before one by which these threads leave and come, if some are.
+pub(crate) fn missing_among(
+    tasks: &[Followed],
+    wakes: bool,
+    first: Whose,
+    second: Whose,
+    leaving: Leaving,
+) -> Option<u64>
+    ensures { result ≡ missing_among wakes first second leaving 0 tasks.now }
+{
+    let mut missing = None;
+    for number in (0..tasks.len()).rev() {
+        let (left, came) = (first.is(number), second.is(number));
+        let since = tasks[number]
+            .known
+            .missing_since(wakes, left, came, leaving);
+        missing = earlier(since, missing);
+    }
+    missing
+}
+
+/// The earlier one.
+fn earlier(time: Option<u64>, other: Option<u64>) -> Option<u64>
+    ensures { result ≡ earlier time other }
+{
+    match (time, other) {
+        (Some(time), Some(other)) => Some(time.min(other)),
+        (Some(time), None) => Some(time),
+        (None, other) => other,
     }
 }
 
@@ -192,7 +241,7 @@ pub(crate) fn take_each(
 ) -> Result<(), Memory>
     ensures many { OnOk result (vec_len tasks.new ≡ vec_len tasks.old) }
     ensures each { OnOk result ((number : ℕ) (default : Followed) → number < vec_len tasks.old
-        → IsTaken (apart_of asked.now number) wakes (pid_of number first) (pid_of number second) step
+        → IsTaken (pace_at asked.now number) wakes (pid_of number first) (pid_of number second) step
         (slice_index_or tasks.old.items number default) (slice_index_or tasks.new.items number default)) }
 {
     let event = Telling {

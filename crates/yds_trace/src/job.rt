@@ -14,9 +14,6 @@ pub enum End {
     Open,
     /// Its thread left a processor to sleep.
     Ended(u64),
-    /// A switch is missing. It was open at this time, when its thread came to a processor that it left unseen.
-    /// Without a wake-up since then it hasn't slept, so it goes on where the thread comes to a processor again.
-    Unseen { since: u64, goes_on: bool },
     /// Events were lost after this time, and nothing is known of it since.
     Lost(u64),
 }
@@ -50,6 +47,8 @@ pub struct Woken {
     pub started: Option<u64>,
     /// Whether a switch of it was seen since events were lost.
     pub seen: bool,
+    /// Whether one came since events were lost.
+    pub ever: bool,
 }
 
 impl Woken {
@@ -58,6 +57,7 @@ impl Woken {
         came: false,
         started: None,
         seen: false,
+        ever: false,
     };
 }
 
@@ -68,10 +68,21 @@ pub struct Leaving {
     pub time: u64,
     /// The processor's speed, in kilohertz, where it is known.
     pub khz: Option<u64>,
-    /// Whether the processor has switched before.
-    pub has_switched: bool,
-    /// Since when no event was lost.
-    pub whole_since: u64,
+    /// When the processor switched last, since events were lost.
+    pub switched: Option<u64>,
+    /// The time of the processor's first line since events were lost.
+    pub lines_since: u64,
+    /// Whether the thread came there by the last switch, under a name that is no task's.
+    pub renamed: bool,
+}
+
+/// Which wake-ups begin a job, and when that is due.
+#[derive(Clone, Copy, Debug, PartialEq, Eq)]
+pub struct Pace {
+    /// A wake-up that comes less than so long after a job's begin goes on with that job.
+    pub apart: u64,
+    /// A job is due no later than so long behind the one before it, where this isn't 0.
+    pub period: u64,
 }
 
 /// A switch of a processor, as a thread sees it.
@@ -84,6 +95,8 @@ pub struct Turn {
     /// In which state who leaves does so.
     pub state: State,
     pub leaving: Leaving,
+    /// Since when switches are missing before it, if some are.
+    pub missing: Option<u64>,
 }
 
 impl Leaving {
@@ -98,6 +111,13 @@ impl Leaving {
             khz: self.khz,
         }
     }
+
+    /// Since when switches of its processor may be missing: since its last one, or since its first line behind a loss.
+    pub(crate) fn last_told(self) -> u64
+        ensures { result ≡ spec.last_told self }
+    {
+        self.switched.unwrap_or(self.lines_since)
+    }
 }
 
 impl End {
@@ -109,19 +129,7 @@ impl End {
             End::Open => End::Lost(open_until(time, slept)),
             End::Ended(end) if time < end => End::Lost(open_until(time, slept)),
             End::Ended(end) => End::Ended(end),
-            End::Unseen { since, .. } => End::Lost(open_until(time, slept).min(since)),
             End::Lost(since) => End::Lost(time.min(since)),
-        }
-    }
-
-    /// The same of a job behind which another one has begun.
-    pub(crate) fn lost_before(self, time: u64, slept: Option<u64>) -> End
-        ensures { result ≡ spec.lost_before time slept self }
-    {
-        match self {
-            End::Unseen { since, .. } if time < since => End::Lost(open_until(time, slept)),
-            End::Unseen { since, goes_on } => End::Unseen { since, goes_on },
-            End::Open | End::Ended(_) | End::Lost(_) => self.lost(time, slept),
         }
     }
 }
@@ -143,13 +151,15 @@ pub struct Job {
     pub begin: u64,
     /// Whether its begin is known.
     pub begin_known: bool,
+    /// Its deadline counts from here: from its begin, or from a period behind where that of the job before counts from.
+    pub due_from: u64,
     /// Its end, as far as that is known.
     pub end: End,
     /// In which its thread ran, in order of time.
     pub stretches: Vec<Stretch>,
     /// How many wake-ups came while it was open.
     pub wake_ups: u64,
-    /// A switch of its thread is missing, so not all that it ran is known.
+    /// Its thread's coming to a processor is missing, so not all that it ran is known.
     pub switch_missing: bool,
     /// Its thread left to sleep at this time, and came back without a wake-up: it hasn't slept.
     pub slept: Option<u64>,
@@ -161,12 +171,13 @@ pub struct Job {
 
 impl Job {
     /// One that begins.
-    pub(crate) fn new(alloc: Global, begin: u64, begin_known: bool) -> Job
-        ensures { job_read result ≡ spec.new_job begin begin_known }
+    pub(crate) fn new(alloc: Global, begin: u64, due_from: u64, begin_known: bool) -> Job
+        ensures { job_read result ≡ spec.new_job begin due_from begin_known }
     {
         Job {
             begin,
             begin_known,
+            due_from,
             end: End::Open,
             stretches: Vec::new(alloc),
             wake_ups: 0,
@@ -174,6 +185,17 @@ impl Job {
             slept: None,
             exited: false,
             shared: false,
+        }
+    }
+
+    /// From when on the deadline of a job counts that begins behind this one, at this time.
+    pub(crate) fn due_behind(&self, period: u64, time: u64) -> u64
+        ensures { result ≡ spec.due_behind period time (job_read self.now) }
+    {
+        if self.begin_known && period != 0 {
+            self.due_from.saturating_add(period).min(time)
+        } else {
+            time
         }
     }
 
@@ -186,11 +208,11 @@ impl Job {
         self
     }
 
-    /// Where events were lost after this time.
-    pub(crate) fn lost(mut self, time: u64) -> Job
-        ensures { job_read result ≡ spec.lost_job time (job_read self) }
+    /// Without a known end since its first sleep without a wake-up, or since the one at this time.
+    pub(crate) fn unended(mut self, time: u64) -> Job
+        ensures { job_read result ≡ spec.unended time (job_read self) }
     {
-        self.end = self.end.lost(time, self.slept);
+        self.end = End::Lost(self.slept.unwrap_or(time));
         self
     }
 
@@ -216,8 +238,11 @@ impl Job {
     pub(crate) fn begun_by(mut self, time: u64) -> Job
         ensures { job_read result ≡ spec.begun_at_most time (job_read self) }
     {
-        self.begin = time;
-        self.begin_known = false;
+        if time < self.begin {
+            self.begin = time;
+            self.begin_known = false;
+            self.due_from = time;
+        }
         self
     }
 
@@ -239,6 +264,7 @@ impl Job {
         Ok(Job {
             begin: self.begin,
             begin_known: self.begin_known,
+            due_from: self.due_from,
             end: self.end,
             stretches,
             wake_ups: self.wake_ups,

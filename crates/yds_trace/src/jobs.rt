@@ -1,16 +1,16 @@
 //! The jobs of a task, in order of their begins: the last one changes.
-ghost use Rattle.std.specs.Prelude.{◌≡◌, ◌+◌, ◌<◌, ◌≤◌, ◌∷◌, map, take, drop, length, sum_by, vec_len, nat_lt, IfOk, OnOk};
+ghost use Rattle.std.specs.Prelude.{◌≡◌, ◌+◌, ◌<◌, ◌≤◌, ◌∷◌, Option, map, take, drop, length, sum_by, vec_len, nat_lt, IfOk, OnOk};
+ghost use Rattle.yds_trace.specs.declared.job.Standing.{Standing};
 ghost use Rattle.std.specs.List.{All};
 ghost use Rattle.yds_kernel.specs.Parts.{capped};
 ghost use Rattle.yds_trace.specs.Document.{began_before};
 ghost use Rattle.yds_trace.specs.Following.{stretches_in};
 ghost use Rattle.yds_trace.specs.Jobs as spec;
-ghost use Rattle.yds_trace.specs.Others.{has_open_job};
 ghost use Rattle.yds_trace.specs.Faults.{has_exited, slept_before};
 ghost use Rattle.yds_trace.specs.Parts.{has_ended, last_begin};
 ghost use Rattle.yds_trace.specs.Views.{job_read, jobs_listed};
 
-use crate::job::{End, Job, Stretch, Woken};
+use crate::job::{End, Job, Pace, Stretch, Woken};
 use base::Memory;
 use std::alloc::Global;
 
@@ -24,7 +24,24 @@ pub(crate) fn begin(
 ) -> Result<(), Memory>
     ensures { OnOk result (jobs_listed jobs.new.items ≡ spec.began time known (jobs_listed jobs.old.items)) }
 {
-    jobs.push(Job::new(alloc, time, known))?;
+    jobs.push(Job::new(alloc, time, time, known))?;
+    Ok(())
+}
+
+/// A job begins behind one that has ended.
+#[tactic(auto, using(crate::proofs::Listed::jobs_listed_push))]
+fn begin_behind(
+    alloc: Global,
+    period: u64,
+    time: u64,
+    before: Job,
+    jobs: &mut Vec<Job>,
+) -> Result<(), Memory>
+    ensures { OnOk result (jobs_listed jobs.new.items ≡ spec.began_behind period time (job_read before) (jobs_listed jobs.old.items)) }
+{
+    let due_from = before.due_behind(period, time);
+    put(before, jobs)?;
+    jobs.push(Job::new(alloc, time, due_from, true))?;
     Ok(())
 }
 
@@ -41,33 +58,33 @@ fn put(job: Job, jobs: &mut Vec<Job>) -> Result<(), Memory>
 #[tactic(auto, using(crate::proofs::Listed::jobs_listed_push))]
 pub(crate) fn wake(
     alloc: Global,
-    apart: u64,
+    pace: Pace,
     time: u64,
     again: bool,
     jobs: &mut Vec<Job>,
 ) -> Result<(), Memory>
-    ensures { OnOk result (jobs_listed jobs.new.items ≡ spec.woken_jobs apart time again (jobs_listed jobs.old.items)) }
+    ensures { OnOk result (jobs_listed jobs.new.items ≡ spec.woken_jobs pace time again (jobs_listed jobs.old.items)) }
 {
     match jobs.pop() {
-        Some(job) => wake_after(alloc, apart, time, again, job, jobs),
+        Some(job) => wake_after(alloc, pace, time, again, job, jobs),
         None => begin(alloc, time, true, jobs),
     }
 }
 
 fn wake_after(
     alloc: Global,
-    apart: u64,
+    pace: Pace,
     time: u64,
     again: bool,
     job: Job,
     jobs: &mut Vec<Job>,
 ) -> Result<(), Memory>
-    ensures { OnOk result (jobs_listed jobs.new.items ≡ spec.woken_jobs apart time again (job_read job ∷ jobs_listed jobs.old.items)) }
+    ensures { OnOk result (jobs_listed jobs.new.items ≡ spec.woken_jobs pace time again (job_read job ∷ jobs_listed jobs.old.items)) }
 {
     match job.end {
         End::Open => put(job.counted(again), jobs),
-        End::Ended(_) => wake_again(alloc, apart, time, job, jobs),
-        End::Unseen { .. } | End::Lost(_) => {
+        End::Ended(_) => wake_again(alloc, pace, time, job, jobs),
+        End::Lost(_) => {
             put(job, jobs)?;
             begin(alloc, time, true, jobs)
         }
@@ -77,16 +94,15 @@ fn wake_after(
 /// After the last job has ended: it goes on, or another one begins.
 fn wake_again(
     alloc: Global,
-    apart: u64,
+    pace: Pace,
     time: u64,
     job: Job,
     jobs: &mut Vec<Job>,
 ) -> Result<(), Memory>
-    ensures { OnOk result (jobs_listed jobs.new.items ≡ spec.woken_after apart time (job_read job) (jobs_listed jobs.old.items)) }
+    ensures { OnOk result (jobs_listed jobs.new.items ≡ spec.woken_after pace time (job_read job) (jobs_listed jobs.old.items)) }
 {
-    if !is_within(time, job.begin, apart) {
-        put(job, jobs)?;
-        begin(alloc, time, true, jobs)
+    if !is_within(time, job.begin, pace.apart) {
+        begin_behind(alloc, pace.period, time, job, jobs)
     } else if job.begin_known {
         put(job.reopened(), jobs)
     } else {
@@ -105,26 +121,31 @@ fn is_within(time: u64, begin: u64, apart: u64) -> bool
     }
 }
 
-/// The thread is found awake.
+/// The thread is found to run, and wasn't seen to come.
 #[tactic(auto, using(crate::proofs::Listed::jobs_listed_push))]
-pub(crate) fn find_awake(alloc: Global, time: u64, jobs: &mut Vec<Job>) -> Result<(), Memory>
-    ensures { OnOk result (jobs_listed jobs.new.items ≡ spec.awake_jobs time (jobs_listed jobs.old.items)) }
+pub(crate) fn find(alloc: Global, time: u64, known: bool, jobs: &mut Vec<Job>) -> Result<(), Memory>
+    ensures { OnOk result (jobs_listed jobs.new.items ≡ spec.found_jobs time known (jobs_listed jobs.old.items)) }
 {
     match jobs.pop() {
-        Some(job) => awake_after(alloc, time, job, jobs),
-        None => begin(alloc, time, false, jobs),
+        Some(job) => find_after(alloc, time, known, job, jobs),
+        None => begin(alloc, time, known, jobs),
     }
 }
 
-fn awake_after(alloc: Global, time: u64, job: Job, jobs: &mut Vec<Job>) -> Result<(), Memory>
-    ensures { OnOk result (jobs_listed jobs.new.items ≡ spec.awake_jobs time (job_read job ∷ jobs_listed jobs.old.items)) }
+fn find_after(
+    alloc: Global,
+    time: u64,
+    known: bool,
+    job: Job,
+    jobs: &mut Vec<Job>,
+) -> Result<(), Memory>
+    ensures { OnOk result (jobs_listed jobs.new.items ≡ spec.found_jobs time known (job_read job ∷ jobs_listed jobs.old.items)) }
 {
     match job.end {
         End::Open => put(job, jobs),
-        End::Unseen { goes_on: true, .. } => put(job.reopened(), jobs),
-        End::Unseen { goes_on: false, .. } | End::Ended(_) | End::Lost(_) => {
+        End::Ended(_) | End::Lost(_) => {
             put(job, jobs)?;
-            begin(alloc, time, false, jobs)
+            begin(alloc, time, known, jobs)
         }
     }
 }
@@ -133,36 +154,33 @@ fn awake_after(alloc: Global, time: u64, job: Job, jobs: &mut Vec<Job>) -> Resul
 #[tactic(auto, using(crate::proofs::Listed::jobs_listed_push))]
 pub(crate) fn come(
     alloc: Global,
-    apart: u64,
+    pace: Pace,
     time: u64,
     woken: Woken,
     jobs: &mut Vec<Job>,
 ) -> Result<(), Memory>
-    ensures { OnOk result (jobs_listed jobs.new.items ≡ spec.come_jobs apart time woken (jobs_listed jobs.old.items)) }
+    ensures { OnOk result (jobs_listed jobs.new.items ≡ spec.come_jobs pace time woken (jobs_listed jobs.old.items)) }
 {
     match jobs.pop() {
-        Some(job) => come_after(alloc, apart, time, woken, job, jobs),
+        Some(job) => come_after(alloc, pace, time, woken, job, jobs),
         None => begin(alloc, time, false, jobs),
     }
 }
 
 fn come_after(
     alloc: Global,
-    apart: u64,
+    pace: Pace,
     time: u64,
     woken: Woken,
     job: Job,
     jobs: &mut Vec<Job>,
 ) -> Result<(), Memory>
-    ensures { OnOk result (jobs_listed jobs.new.items ≡ spec.come_jobs apart time woken (job_read job ∷ jobs_listed jobs.old.items)) }
+    ensures { OnOk result (jobs_listed jobs.new.items ≡ spec.come_jobs pace time woken (job_read job ∷ jobs_listed jobs.old.items)) }
 {
     match job.end {
-        End::Ended(end) if woken.seen => {
-            come_back(alloc, apart, time, end, woken.started, job, jobs)
-        }
+        End::Ended(end) if woken.seen => { come_back(alloc, pace, time, end, woken, job, jobs) }
         End::Open => put(job, jobs),
-        End::Unseen { goes_on: true, .. } => put(job.reopened(), jobs),
-        End::Unseen { goes_on: false, .. } | End::Ended(_) | End::Lost(_) => {
+        End::Ended(_) | End::Lost(_) => {
             put(job, jobs)?;
             begin(alloc, time, false, jobs)
         }
@@ -172,20 +190,20 @@ fn come_after(
 /// Its thread left to sleep at the end, and comes back; perhaps a wake-up was started before it left.
 fn come_back(
     alloc: Global,
-    apart: u64,
+    pace: Pace,
     time: u64,
     end: u64,
-    started: Option<u64>,
+    woken: Woken,
     job: Job,
     jobs: &mut Vec<Job>,
 ) -> Result<(), Memory>
-    ensures { OnOk result (jobs_listed jobs.new.items ≡ spec.back_jobs apart time end started (job_read job) (jobs_listed jobs.old.items)) }
+    ensures { OnOk result (jobs_listed jobs.new.items ≡ spec.back_jobs pace time end woken.ever woken.started (job_read job) (jobs_listed jobs.old.items)) }
 {
-    match (started, job.slept) {
-        (Some(woken), _) => wake_again(alloc, apart, woken, job, jobs),
-        (None, None) => put(job.went_on(end), jobs),
-        (None, Some(first)) => {
-            put(job.lost(first), jobs)?;
+    match woken.started {
+        Some(before) => wake_again(alloc, pace, before, job, jobs),
+        None if woken.ever && job.slept.is_none() => put(job.went_on(end), jobs),
+        None => {
+            put(job.unended(end), jobs)?;
             begin(alloc, time, false, jobs)
         }
     }
@@ -195,31 +213,31 @@ fn come_back(
 #[tactic(auto, using(crate::proofs::Listed::jobs_listed_push))]
 pub(crate) fn start_running(
     alloc: Global,
-    apart: u64,
+    pace: Pace,
     time: u64,
     jobs: &mut Vec<Job>,
 ) -> Result<(), Memory>
-    ensures { OnOk result (jobs_listed jobs.new.items ≡ spec.running_jobs apart time (jobs_listed jobs.old.items)) }
+    ensures { OnOk result (jobs_listed jobs.new.items ≡ spec.running_jobs pace time (jobs_listed jobs.old.items)) }
 {
     match jobs.pop() {
-        Some(job) => running_after(alloc, apart, time, job, jobs),
+        Some(job) => running_after(alloc, pace, time, job, jobs),
         None => begin(alloc, time, false, jobs),
     }
 }
 
 fn running_after(
     alloc: Global,
-    apart: u64,
+    pace: Pace,
     time: u64,
     job: Job,
     jobs: &mut Vec<Job>,
 ) -> Result<(), Memory>
-    ensures { OnOk result (jobs_listed jobs.new.items ≡ spec.running_jobs apart time (job_read job ∷ jobs_listed jobs.old.items)) }
+    ensures { OnOk result (jobs_listed jobs.new.items ≡ spec.running_jobs pace time (job_read job ∷ jobs_listed jobs.old.items)) }
 {
     match job.end {
         End::Open => put(job, jobs),
-        End::Ended(_) => wake_again(alloc, apart, time, job, jobs),
-        End::Unseen { .. } | End::Lost(_) => {
+        End::Ended(_) => wake_again(alloc, pace, time, job, jobs),
+        End::Lost(_) => {
             put(job, jobs)?;
             begin(alloc, time, false, jobs)
         }
@@ -245,7 +263,7 @@ pub(crate) fn exit_last(time: u64, jobs: &mut Vec<Job>)
     }
 }
 
-/// A switch of the last job's thread is missing.
+/// A coming of the last job's thread is missing.
 pub(crate) fn mark_last(jobs: &mut Vec<Job>)
     ensures { jobs_listed jobs.new.items ≡ spec.changed_last spec.missing (jobs_listed jobs.old.items) }
 {
@@ -254,13 +272,12 @@ pub(crate) fn mark_last(jobs: &mut Vec<Job>)
     }
 }
 
-/// The last job's thread left unseen.
-pub(crate) fn unsee_last(since: u64, goes_on: bool, jobs: &mut Vec<Job>)
-    ensures { jobs_listed jobs.new.items ≡ spec.changed_last (spec.left_unseen since goes_on) (jobs_listed jobs.old.items) }
+/// The last job has no known end from this time on.
+pub(crate) fn lose_last(time: u64, jobs: &mut Vec<Job>)
+    ensures { jobs_listed jobs.new.items ≡ spec.changed_last (spec.lost_job time) (jobs_listed jobs.old.items) }
 {
     if let Some(job) = jobs.last_mut() {
-        job.end = End::Unseen { since, goes_on };
-        job.switch_missing = true;
+        job.end = job.end.lost(time, job.slept);
     }
 }
 
@@ -291,35 +308,35 @@ fn begin_by_after(alloc: Global, time: u64, job: Job, jobs: &mut Vec<Job>) -> Re
 {
     match job.end {
         End::Open => put(job.begun_by(time), jobs),
-        End::Ended(_) | End::Unseen { .. } | End::Lost(_) => {
+        End::Ended(_) | End::Lost(_) => {
             put(job, jobs)?;
             begin(alloc, time, false, jobs)
         }
     }
 }
 
-/// Whether the last job is open and hasn't run, or events were lost while it was; or there is none.
-pub(crate) fn has_no_switch(jobs: &Vec<Job>) -> bool
-    ensures { result ≡ spec.has_no_switch (jobs_listed jobs.now.items) }
+/// Whether the last job is open, or has ended with a wake-up that was started before.
+pub(crate) fn is_awake(woken: Woken, jobs: &Vec<Job>) -> bool
+    ensures { (on : Option Standing) → result ≡ spec.is_awake (record { jobs = jobs_listed jobs.now.items; on = on; woken = woken }) }
 {
     match jobs.last() {
         Some(job) => match job.end {
-            End::Open => job.stretches.is_empty() && !job.switch_missing,
-            End::Ended(_) | End::Unseen { .. } => false,
-            End::Lost(_) => true,
+            End::Open => true,
+            End::Ended(_) => woken.seen && woken.started.is_some(),
+            End::Lost(_) => false,
         },
-        None => true,
+        None => false,
     }
 }
 
 /// Whether a job of them is open.
 pub(crate) fn has_open_job(jobs: &Vec<Job>) -> bool
-    ensures { result ≡ has_open_job (jobs_listed jobs.now.items) }
+    ensures { result ≡ spec.has_open_job (jobs_listed jobs.now.items) }
 {
     match jobs.last() {
         Some(job) => match job.end {
             End::Open => true,
-            End::Ended(_) | End::Unseen { .. } | End::Lost(_) => false,
+            End::Ended(_) | End::Lost(_) => false,
         },
         None => false,
     }
@@ -332,20 +349,20 @@ pub(crate) fn has_ended(jobs: &Vec<Job>) -> bool
     match jobs.last() {
         Some(job) => match job.end {
             End::Ended(_) => true,
-            End::Open | End::Unseen { .. } | End::Lost(_) => false,
+            End::Open | End::Lost(_) => false,
         },
         None => false,
     }
 }
 
-/// Whether the last job has ended, and went on behind a sleep before.
-pub(crate) fn slept_before(jobs: &Vec<Job>) -> bool
-    ensures { result ≡ slept_before (jobs_listed jobs.now.items) }
+/// Whether the last job has ended, and went on behind a sleep before, or no wake-up was ever seen.
+pub(crate) fn slept_before(ever: bool, jobs: &Vec<Job>) -> bool
+    ensures { result ≡ slept_before ever (jobs_listed jobs.now.items) }
 {
     match jobs.last() {
         Some(job) => match job.end {
-            End::Ended(_) => job.slept.is_some(),
-            End::Open | End::Unseen { .. } | End::Lost(_) => false,
+            End::Ended(_) => !ever || job.slept.is_some(),
+            End::Open | End::Lost(_) => false,
         },
         None => false,
     }
@@ -362,28 +379,10 @@ pub(crate) fn has_exited(jobs: &Vec<Job>) -> bool
 }
 
 /// Events were lost after this time.
-#[tactic(auto, using(crate::proofs::Listed::lost_last))]
 pub(crate) fn lose_all(time: u64, jobs: &mut Vec<Job>)
-    ensures { jobs_listed jobs.new.items ≡ spec.lost_jobs time (jobs_listed jobs.old.items) }
-{
-    lose_earlier(time, jobs);
-    lose_last(time, jobs);
-}
-
-/// Events were lost after this time, and behind each of these jobs another one has begun.
-fn lose_earlier(time: u64, jobs: &mut Vec<Job>)
-    ensures { jobs_listed jobs.new.items ≡ map (spec.lost_earlier time) (jobs_listed jobs.old.items) }
+    ensures { jobs_listed jobs.new.items ≡ map (spec.lost_job time) (jobs_listed jobs.old.items) }
 {
     for job in jobs.iter_mut() {
-        job.end = job.end.lost_before(time, job.slept);
-    }
-}
-
-/// Events were lost after this time, and the last job may be open.
-fn lose_last(time: u64, jobs: &mut Vec<Job>)
-    ensures { jobs_listed jobs.new.items ≡ spec.changed_last (spec.lost_job time) (jobs_listed jobs.old.items) }
-{
-    if let Some(job) = jobs.last_mut() {
         job.end = job.end.lost(time, job.slept);
     }
 }

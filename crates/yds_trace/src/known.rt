@@ -2,14 +2,14 @@
 ghost use Rattle.std.specs.Prelude.{◌≡◌, OnOk};
 ghost use Rattle.yds_trace.specs.Jobs as spec;
 ghost use Rattle.yds_trace.specs.Faults.{is_unwoken};
-ghost use Rattle.yds_trace.specs.Parts.{sleeps_before, woken_before};
+ghost use Rattle.yds_trace.specs.Parts.{came_before, sleeps_before, woken_before};
 ghost use Rattle.yds_trace.specs.Steps.{stepped};
 ghost use Rattle.yds_trace.specs.Views.{jobs_listed, known_read};
 
-use crate::job::{Job, Leaving, Standing, Stretch, Turn, Woken};
+use crate::job::{Job, Leaving, Pace, Standing, Stretch, Turn, Woken};
 use crate::jobs::{
-    begin, begin_by, come, end_last, exit_last, find_awake, has_ended, has_no_switch, last_begin,
-    lose_all, mark_last, run_last, slept_before, start_running, unsee_last, wake,
+    begin, begin_by, come, end_last, exit_last, find, has_ended, has_open_job, is_awake,
+    last_begin, lose_all, lose_last, mark_last, run_last, slept_before, start_running, wake,
 };
 use crate::step::Step;
 use base::Memory;
@@ -43,21 +43,23 @@ impl Known {
     pub fn switch(
         &mut self,
         alloc: Global,
-        apart: u64,
+        pace: Pace,
         wakes: bool,
         turn: Turn,
     ) -> Result<(), Memory>
-        ensures { OnOk result (known_read self.new ≡ spec.after_switch apart wakes turn.left turn.came turn.state turn.leaving (known_read self.old)) }
+        ensures { OnOk result (known_read self.new ≡ spec.after_switch pace wakes turn.left turn.came turn.state turn.leaving turn.missing (known_read self.old)) }
     {
+        if let Some(since) = turn.missing {
+            self.tear(alloc, turn.left, turn.came, turn.leaving.processor, since)?;
+        }
         if turn.left {
-            self.leave(alloc, wakes, turn.state, turn.leaving)?;
-        } else {
-            self.pass_by(wakes, turn.leaving.processor);
+            let torn = turn.missing.is_some();
+            self.leave(alloc, pace, wakes, torn, turn.state, turn.leaving)?;
         }
         if turn.came {
             self.come(
                 alloc,
-                apart,
+                pace,
                 wakes,
                 turn.leaving.processor,
                 turn.leaving.time,
@@ -70,26 +72,31 @@ impl Known {
     pub(crate) fn step(
         &mut self,
         alloc: Global,
-        apart: u64,
+        pace: Pace,
         wakes: bool,
         first: bool,
         second: bool,
         step: Step,
     ) -> Result<(), Memory>
-        ensures { OnOk result (known_read self.new ≡ stepped apart wakes first second step (known_read self.old)) }
+        ensures { OnOk result (known_read self.new ≡ stepped pace wakes first second step (known_read self.old)) }
     {
         match step {
-            Step::Switch { state, leaving } => {
+            Step::Switch {
+                state,
+                leaving,
+                missing,
+            } => {
                 let turn = Turn {
                     left: first,
                     came: second,
                     state,
                     leaving,
+                    missing,
                 };
-                self.switch(alloc, apart, wakes, turn)
+                self.switch(alloc, pace, wakes, turn)
             }
             Step::WakeUp { time, starts } if first && wakes => {
-                self.wake(alloc, apart, starts, time)
+                self.wake(alloc, pace, starts, time)
             }
             Step::Speed {
                 processor,
@@ -104,42 +111,80 @@ impl Known {
         }
     }
 
-    /// It isn't where it was last seen to come.
-    fn vanish(&mut self, wakes: bool)
-        ensures { known_read self.new ≡ spec.vanished wakes (known_read self.old) }
+    /// Switches are missing since a time, before one of a processor by which this thread leaves, or comes.
+    fn tear(
+        &mut self,
+        alloc: Global,
+        left: bool,
+        came: bool,
+        processor: u64,
+        since: u64,
+    ) -> Result<(), Memory>
+        ensures { OnOk result (known_read self.new ≡ spec.torn left came processor since (known_read self.old)) }
     {
-        if let Some(standing) = self.on {
-            unsee_last(standing.came, wakes && !self.woken.came, &mut self.jobs);
-            self.on = None;
-            self.woken.started = None;
+        match self.on {
+            Some(standing) if !left && !came && standing.processor != processor => {
+                if since < standing.came {
+                    lose_all(since, &mut self.jobs);
+                    begin(alloc, standing.came, false, &mut self.jobs)?;
+                }
+            }
+            Some(_) | None => self.lose(since),
+        }
+        Ok(())
+    }
+
+    /// Since when a switch of the thread is missing, before one by which it leaves or comes, or another one does.
+    pub(crate) fn missing_since(
+        &self,
+        wakes: bool,
+        left: bool,
+        came: bool,
+        leaving: Leaving,
+    ) -> Option<u64>
+        ensures { result ≡ spec.missing_since wakes left came leaving (known_read self.now) }
+    {
+        match self.on {
+            Some(standing) => {
+                let displaced = if standing.processor == leaving.processor {
+                    !left
+                } else {
+                    left || came
+                };
+                displaced.then_some(standing.came.min(leaving.last_told()))
+            }
+            None => {
+                let missing = left && !self.is_there(wakes, leaving);
+                missing.then_some(leaving.last_told())
+            }
         }
     }
 
-    /// Another thread leaves this processor.
-    fn pass_by(&mut self, wakes: bool, processor: u64)
-        ensures { known_read self.new ≡ spec.passed_by wakes processor (known_read self.old) }
+    /// Whether a thread that leaves a processor, and has none, needn't have come in a line that is missing, or was awake.
+    fn is_there(&self, wakes: bool, leaving: Leaving) -> bool
+        ensures { result ≡ spec.is_there wakes leaving (known_read self.now) }
     {
-        if stands_on(processor, self.on) {
-            self.vanish(wakes);
-        }
+        leaving.renamed
+            || leaving.switched.is_none() && !self.woken.seen
+            || !wakes
+            || is_awake(self.woken, &self.jobs)
     }
 
     /// It comes to a processor.
     fn come(
         &mut self,
         alloc: Global,
-        apart: u64,
+        pace: Pace,
         wakes: bool,
         processor: u64,
         time: u64,
     ) -> Result<(), Memory>
-        ensures { OnOk result (known_read self.new ≡ spec.comes apart wakes processor time (known_read self.old)) }
+        ensures { OnOk result (known_read self.new ≡ spec.comes pace wakes processor time (known_read self.old)) }
     {
-        self.vanish(wakes);
         if wakes {
-            come(alloc, apart, time, self.woken, &mut self.jobs)?;
+            come(alloc, pace, time, self.woken, &mut self.jobs)?;
         } else {
-            start_running(alloc, apart, time, &mut self.jobs)?;
+            start_running(alloc, pace, time, &mut self.jobs)?;
         }
         self.on = Some(Standing {
             processor,
@@ -150,18 +195,24 @@ impl Known {
             came: false,
             started: None,
             seen: true,
+            ever: self.woken.ever,
         };
         Ok(())
     }
 
     /// It is woken: a wake-up is started, or was done.
-    pub fn wake(&mut self, alloc: Global, apart: u64, starts: bool, time: u64) -> Result<(), Memory>
-        ensures { OnOk result (known_read self.new ≡ spec.wakes_up apart starts time (known_read self.old)) }
+    pub fn wake(&mut self, alloc: Global, pace: Pace, starts: bool, time: u64) -> Result<(), Memory>
+        ensures { OnOk result (known_read self.new ≡ spec.wakes_up pace starts time (known_read self.old)) }
     {
         let begin = woken_at(starts, time, self.woken.started);
-        wake(alloc, apart, begin, self.woken.came, &mut self.jobs)?;
-        self.woken.came = true;
-        self.woken.started = starts.then_some(time);
+        let may_run = has_open_job(&self.jobs) || !self.woken.seen;
+        wake(alloc, pace, begin, self.woken.came, &mut self.jobs)?;
+        self.woken = Woken {
+            came: true,
+            started: (starts && may_run).then_some(time),
+            seen: self.woken.seen,
+            ever: true,
+        };
         Ok(())
     }
 
@@ -204,73 +255,87 @@ impl Known {
         Ok(())
     }
 
-    /// It leaves a processor.
+    /// It leaves a processor, with switches missing before or not.
     fn leave(
         &mut self,
         alloc: Global,
+        pace: Pace,
         wakes: bool,
+        torn: bool,
         state: State,
         leaving: Leaving,
     ) -> Result<(), Memory>
-        ensures { OnOk result (known_read self.new ≡ spec.leaves wakes state leaving (known_read self.old)) }
+        ensures { OnOk result (known_read self.new ≡ spec.leaves pace wakes torn state leaving (known_read self.old)) }
     {
-        let started = if stands_on(leaving.processor, self.on) {
-            self.woken.started
-        } else {
-            None
+        let woken = Woken {
+            came: false,
+            started: left_started(state, self.woken.started),
+            seen: true,
+            ever: self.woken.ever,
         };
-        self.leave_from(alloc, wakes, leaving)?;
+        self.leave_from(alloc, pace, wakes, torn, leaving)?;
         match state {
             State::GoesOn => {}
             State::Sleeps => end_last(leaving.time, &mut self.jobs),
             State::Exits => exit_last(leaving.time, &mut self.jobs),
-            State::Unknown => unsee_last(leaving.time, wakes, &mut self.jobs),
+            State::Unknown => lose_last(leaving.time, &mut self.jobs),
         }
         self.on = None;
-        self.woken = Woken {
-            came: false,
-            started: if state == State::Sleeps {
-                started
-            } else {
-                None
-            },
-            seen: true,
-        };
+        self.woken = woken;
         Ok(())
     }
 
-    /// Whether nothing was seen of its switches since the trace's begin, or since events were lost.
-    fn is_new(&self) -> bool
-        ensures { result ≡ spec.is_new (known_read self.now) }
+    /// Its jobs where it leaves a processor.
+    fn leave_from(
+        &mut self,
+        alloc: Global,
+        pace: Pace,
+        wakes: bool,
+        torn: bool,
+        leaving: Leaving,
+    ) -> Result<(), Memory>
+        ensures { OnOk result (jobs_listed self.new.jobs.items ≡ spec.left_from pace wakes torn leaving (known_read self.old)) }
     {
-        !self.woken.seen && has_no_switch(&self.jobs)
+        match self.on {
+            Some(standing) => run_last(leaving.stretch(standing.since), &mut self.jobs),
+            None => self.leave_unseen(alloc, pace, wakes, torn, leaving),
+        }
     }
 
-    /// Its jobs where it leaves a processor.
-    fn leave_from(&mut self, alloc: Global, wakes: bool, leaving: Leaving) -> Result<(), Memory>
-        ensures { OnOk result (jobs_listed self.new.jobs.items ≡ spec.left_from wakes leaving (known_read self.old)) }
+    /// Its jobs where it leaves a processor to which it wasn't seen to come.
+    fn leave_unseen(
+        &mut self,
+        alloc: Global,
+        pace: Pace,
+        wakes: bool,
+        torn: bool,
+        leaving: Leaving,
+    ) -> Result<(), Memory>
+        ensures { OnOk result (jobs_listed self.new.jobs.items ≡ spec.left_unseen pace wakes torn leaving (known_read self.old)) }
     {
-        if let Some(standing) = self.on {
-            if standing.processor == leaving.processor {
-                return run_last(leaving.stretch(standing.since), &mut self.jobs);
-            }
-        } else if !leaving.has_switched && self.is_new() {
-            begin_by(alloc, leaving.whole_since, &mut self.jobs)?;
-            return run_last(leaving.stretch(leaving.whole_since), &mut self.jobs);
+        if leaving.renamed {
+            return find(alloc, leaving.time, true, &mut self.jobs);
         }
-        self.vanish(wakes);
-        find_awake(alloc, leaving.time, &mut self.jobs)?;
+        if !torn && leaving.switched.is_none() && !self.woken.seen {
+            begin_by(alloc, leaving.lines_since, &mut self.jobs)?;
+            return run_last(leaving.stretch(leaving.lines_since), &mut self.jobs);
+        }
+        if wakes {
+            come(alloc, pace, leaving.time, self.woken, &mut self.jobs)?;
+        } else {
+            find(alloc, leaving.time, false, &mut self.jobs)?;
+        }
         mark_last(&mut self.jobs);
         Ok(())
     }
 }
 
 impl Known {
-    /// Whether it left to sleep twice in one job, and no wake-up ended either sleep.
+    /// Whether it left to sleep, and no wake-up ended that: for the second time in one job, or none of it was ever seen.
     pub(crate) fn is_unwoken(&self) -> bool
         ensures { result ≡ is_unwoken (known_read self.now) }
     {
-        self.woken.seen && self.woken.started.is_none() && slept_before(&self.jobs)
+        self.woken.seen && self.woken.started.is_none() && slept_before(self.woken.ever, &self.jobs)
     }
 
     /// Whether its last job began before this time, and it left to sleep, without a wake-up since.
@@ -286,6 +351,13 @@ impl Known {
     {
         self.woken.started.is_some() && self.sleeps_before(boundary)
     }
+
+    /// The same, where it isn't seen to have a processor.
+    pub(crate) fn came_before(&self, boundary: u64) -> bool
+        ensures { result ≡ came_before boundary (known_read self.now) }
+    {
+        self.on.is_none() && self.woken_before(boundary)
+    }
 }
 
 /// Since when a thread is awake, of whose wake-up a line of this time tells.
@@ -295,6 +367,16 @@ fn woken_at(starts: bool, time: u64, started: Option<u64>) -> u64
     match started {
         Some(before) if !starts => before,
         Some(_) | None => time,
+    }
+}
+
+/// The wake-up that isn't done yet where a thread leaves in this state.
+fn left_started(state: State, started: Option<u64>) -> Option<u64>
+    ensures { result ≡ spec.left_started state started }
+{
+    match state {
+        State::Sleeps => started,
+        State::GoesOn | State::Exits | State::Unknown => None,
     }
 }
 

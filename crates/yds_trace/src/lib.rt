@@ -35,7 +35,7 @@ pub use asked::{Asked, Start, StartSpeed, Task, Which};
 pub use cut::{Cut, NO_CUT};
 pub use ended::Ended;
 pub use fault::Cause;
-pub use job::{End, Job, Leaving, Standing, Stretch, Turn};
+pub use job::{End, Job, Leaving, Pace, Standing, Stretch, Turn};
 pub use kept::Kept;
 pub use known::Known;
 pub use limits::{
@@ -48,4 +48,4 @@ pub use reason::Reason;
 pub use refused::Refused;
 pub use share::has_run_on;
 pub use shown::{Shown, ShownTask};
-pub use tally::{Pause, Tally};
+pub use tally::{Pause, Silence, Tally};

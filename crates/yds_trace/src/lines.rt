@@ -3,8 +3,8 @@ ghost use Rattle.std.specs.Prelude.{◌≡◌, ℕ, ◌<◌, List, [], ◌∷◌
 ghost use Rattle.yds_kernel.specs.Event.{Said, Stamped, Lost};
 ghost use Rattle.yds_kernel.specs.Views.{event_read};
 ghost use Rattle.yds_trace.specs.Asked as asking;
-ghost use Rattle.yds_trace.specs.Faults.{processors_fault, lost_just_before, tells_loss, is_behind_loss, has_wake_up, unseen_from};
-ghost use Rattle.yds_trace.specs.Tally.{tally_of};
+ghost use Rattle.yds_trace.specs.Faults.{processors_fault, lost_just_before, tells_loss, is_behind_loss, missing_at, unseen_from};
+ghost use Rattle.yds_trace.specs.Tally.{is_gap, tally_of};
 ghost use Rattle.yds_trace.specs.Kept.{IsLines};
 ghost use Rattle.yds_trace.specs.Steps.{first_in, second_in};
 ghost use Rattle.yds_trace.specs.Views.{asked_read};
@@ -13,7 +13,7 @@ use crate::asked::Asked;
 use crate::past::Past;
 use crate::step::Whose;
 use crate::tally::Tally;
-use crate::within::{is_behind_from, is_within_to};
+use crate::within::{is_behind_from, is_within_to, last_asked};
 use base::Memory;
 use std::alloc::Global;
 use yds_kernel::{Event, Happening, Since};
@@ -24,8 +24,6 @@ pub(crate) struct Lines {
     pub past: Past,
     /// Whether events were lost just before, within what is asked for.
     pub lost: bool,
-    /// Whether a wake-up of a task is among them.
-    pub woken: bool,
     /// What they lack.
     pub tallied: Tally,
     /// Whether a line names the task.
@@ -40,31 +38,31 @@ impl Lines {
         Ok(Lines {
             past: Past::new(alloc, &asked.start)?,
             lost: false,
-            woken: false,
             tallied: Tally::new(),
             seen: vec![in alloc; false; asked.tasks.len()]?,
         })
     }
 
-    /// Takes an event.
+    /// Takes an event, before which switches of tasks are missing since a time, or none are.
     pub(crate) fn take(
         &mut self,
         asked: &Asked,
         event: &Event<'_>,
         first: Whose,
         second: Whose,
+        missing: Option<u64>,
     ) -> Result<(), Memory>
         requires { processors_fault (event_read event.now) ≡ None }
         ensures { (past : List Said) → IsLines (asked_read asked.now) past self.old
             → first ≡ first_in (asked_read asked.now).tasks (event_read event.now).happening
             → second ≡ second_in (asked_read asked.now).tasks (event_read event.now).happening
+            → missing ≡ missing_at (asked_read asked.now) past (event_read event.now)
             → OnOk result (IsLines (asked_read asked.now) (Stamped (event_read event.now) ∷ past) self.new) }
     {
-        let behind_loss = self.is_behind_loss(asked.from, asked.to, event);
-        self.tallied.take(asked.from, asked.to, behind_loss, &self.past, event, first);
+        let gap = self.is_gap(asked, event, missing);
+        self.tallied.take(asked, gap, &self.past, event, first);
         self.past.take(event, second.unlisted())?;
         self.lost = false;
-        self.woken = self.is_woken(event, first);
         mark(&mut self.seen, first.number);
         mark(&mut self.seen, second.number);
         Ok(())
@@ -92,6 +90,16 @@ impl Lines {
         (self.lost || self.tells_loss(to, event)) && is_behind_from(from, event.time)
     }
 
+    /// Whether events are said to be lost before an event, or switches of tasks are missing there, within what is asked for.
+    fn is_gap(&self, asked: &Asked, event: &Event<'_>, missing: Option<u64>) -> bool
+        ensures { (past : List Said) → IsLines (asked_read asked.now) past self.now
+            → missing ≡ missing_at (asked_read asked.now) past (event_read event.now)
+            → result ≡ is_gap (asked_read asked.now) past (event_read event.now) }
+    {
+        self.is_behind_loss(asked.from, asked.to, event)
+            || missing.is_some() && is_behind_from(asked.from, event.time)
+    }
+
     /// Whether an event tells of a loss since a time before `to`.
     fn tells_loss(&self, to: Option<u64>, event: &Event<'_>) -> bool
         ensures { (asked : asking.Asked) (past : List Said) → IsLines asked past self.now
@@ -111,26 +119,11 @@ impl Lines {
     }
 
     /// What they lack, where the trace ends here.
-    pub(crate) fn tally(&self) -> Tally
-        ensures { (asked : asking.Asked) (past : List Said) → IsLines asked past self.now → result ≡ tally_of asked past }
+    pub(crate) fn tally(&self, asked: &Asked) -> Tally
+        ensures { (wanted : asking.Asked) (past : List Said) → asked_read asked.now ≡ wanted → IsLines wanted past self.now → result ≡ tally_of wanted past }
     {
-        self.tallied.ended(self.lost)
-    }
-
-    /// Whether a wake-up of a task is among the lines up to this event.
-    fn is_woken(&self, event: &Event<'_>, first: Whose) -> bool
-        ensures { (asked : asking.Asked) (past : List Said) → self.now.woken ≡ has_wake_up asked past
-            → first ≡ first_in asked.tasks (event_read event.now).happening
-            → result ≡ has_wake_up asked (Stamped (event_read event.now) ∷ past) }
-    {
-        match event.happening {
-            Happening::WakeUp { .. } => first.number.is_some() || self.woken,
-            Happening::Switch { .. }
-            | Happening::Speed { .. }
-            | Happening::Loss
-            | Happening::Marker
-            | Happening::Other => self.woken,
-        }
+        let until = last_asked(asked.to, self.past.last);
+        self.tallied.ended(self.lost, self.past.silence(until))
     }
 
     /// Whether events were lost just before, with a line that says so of this processor.

@@ -8,7 +8,7 @@ ghost use Rattle.yds_trace.specs.Asked as asking;
 ghost use Rattle.yds_trace.specs.Following.{spans_kept};
 ghost use Rattle.yds_trace.specs.Kept.{AreOthers};
 ghost use Rattle.yds_trace.specs.Others as spec;
-ghost use Rattle.yds_trace.specs.Past.{last_time};
+ghost use Rattle.yds_trace.specs.Past.{last_time, who_has};
 ghost use Rattle.yds_trace.specs.Steps.{second_in, whose};
 ghost use Rattle.yds_trace.specs.Views.{another_read, going_read, span_read};
 
@@ -256,10 +256,10 @@ fn hold(
     second: Whose,
 ) -> Result<(), Memory>
     ensures { (tasks : List asking.Task) (counting : List trace.Said)
-        → option_map another_read holder.old ≡ option_map spec.shortened (spec.other_of tasks (spec.who_has processor counting))
+        → option_map another_read holder.old ≡ option_map spec.shortened (spec.other_of tasks (who_has processor counting))
         → second ≡ second_in tasks (event_read event.now).happening
         → OnOk result (option_map another_read holder.new
-        ≡ option_map spec.shortened (spec.other_of tasks (spec.who_has processor (trace.Stamped (event_read event.now) ∷ counting)))) }
+        ≡ option_map spec.shortened (spec.other_of tasks (who_has processor (trace.Stamped (event_read event.now) ∷ counting)))) }
 {
     match event.happening {
         Happening::Switch { next, .. } if event.processor == processor => {

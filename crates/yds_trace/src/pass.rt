@@ -6,9 +6,7 @@ ghost use Rattle.yds_trace.specs.Asked as asking;
 ghost use Rattle.yds_trace.specs.Ended.{IsEnded};
 ghost use Rattle.yds_trace.specs.Faults.{said_fault, whole_fault};
 ghost use Rattle.yds_trace.specs.Kept.{IsAt, IsAtBehind, IsEnough, IsStanding, told_to_forget};
-ghost use Rattle.yds_trace.specs.Late.{last_asked};
-ghost use Rattle.yds_trace.specs.Past.{last_time};
-ghost use Rattle.yds_trace.specs.Parts.{may_write, part_fault};
+ghost use Rattle.yds_trace.specs.Parts.{part_fault};
 ghost use Rattle.yds_trace.specs.Passing.{IsRefusedFor, fault_in};
 ghost use Rattle.yds_trace.specs.Shown.{IsShown};
 ghost use Rattle.yds_trace.specs.Views.{asked_read};
@@ -26,6 +24,7 @@ use crate::lines::Lines;
 use crate::refused::Refused;
 use crate::share::share_all;
 use crate::shown::{Shown, show_each};
+use crate::within::last_asked;
 use base::Memory;
 use std::alloc::Global;
 use yds_kernel::{Event, Said, Since};
@@ -92,13 +91,14 @@ impl Pass {
         let mut jobs = close_each(alloc, tasks, &past, until)?;
         share_all(&asked, &mut jobs);
         let others = end_others(alloc, asked.others, others, until)?;
+        let tally = lines.tally(&asked);
         Ok(Ended {
             asked,
             jobs,
             others,
             first: lines.past.first.unwrap_or(0),
             last: lines.past.last,
-            tally: lines.tally(),
+            tally,
         })
     }
 
@@ -125,13 +125,6 @@ impl Pass {
         check_whole(&self.asked, &self.lines)
     }
 
-    /// Whether a part may be written: jobs begin at their first run, or a wake-up of a task is among the lines.
-    pub fn may_write(&self) -> bool
-        ensures { (asked : asking.Asked) (past : List trace.Said) (boundary : ℕ) → IsAtBehind asked past boundary self.now → result ≡ may_write asked past }
-    {
-        self.asked.begin_at_run || self.lines.woken
-    }
-
     /// At most so many jobs, stretches and spans wait, on whichever processor.
     pub fn kept(&self) -> Kept
         ensures { (asked : asking.Asked) (past : List trace.Said) (boundary processor : ℕ) → IsAtBehind asked past boundary self.now
@@ -156,7 +149,7 @@ impl Pass {
             others,
             first: self.lines.past.first.unwrap_or(0),
             last: self.lines.past.last,
-            tally: self.lines.tally(),
+            tally: self.lines.tally(&self.asked),
         })
     }
 
@@ -210,6 +203,7 @@ impl Pass {
         check_place(event)?;
         let first = find_first(&self.asked.tasks, &event.happening);
         let second = find_second(&self.asked.tasks, &event.happening);
+        let missing = self.counted.missing_at(&self.asked, event, first, second);
         check_event(
             &self.asked,
             &self.lines,
@@ -217,11 +211,12 @@ impl Pass {
             event,
             first,
             second,
+            missing,
         )?;
         let (first, second) = (first.whose(), second.whose());
         self.counted
             .count(alloc, &self.asked, &self.lines, event, first, second)?;
-        self.lines.take(&self.asked, event, first, second)?;
+        self.lines.take(&self.asked, event, first, second, missing)?;
         Ok(())
     }
 
@@ -240,15 +235,5 @@ impl Pass {
             .count_loss(&self.asked, &self.lines, processor, since)?;
         self.lines.lose(self.asked.to, processor, since);
         Ok(())
-    }
-}
-
-/// The end of what is asked for and shown.
-fn last_asked(to: Option<u64>, last: u64) -> u64
-    ensures { (asked : asking.Asked) (past : List trace.Said) → asked.to ≡ to → last_time past ≡ last → result ≡ last_asked asked past }
-{
-    match to {
-        Some(to) => to.min(last),
-        None => last,
     }
 }

@@ -1,18 +1,20 @@
 //! What is kept of the lines so far. Times are nanoseconds.
-ghost use Rattle.std.specs.Prelude.{◌≡◌, ℕ, ◌&&◌, nat_lt, not, List, [], ◌∷◌, map, slice_index_or, false, None, IfOk, OnOk};
-ghost use Rattle.yds_kernel.specs.Event.{Said, Stamped, Lost};
+ghost use Rattle.std.specs.Prelude.{◌≡◌, ℕ, ◌<◌, ◌^◌, ◌==◌, if◌then◌else◌, ◌&&◌, nat_lt, not, List, [], ◌∷◌, map, slice_index_or, Option, None, IfOk, OnOk};
+ghost use Rattle.yds_kernel.specs.Event.{Said, Stamped, Lost, Thread};
 ghost use Rattle.yds_kernel.specs.Views.{event_read};
 ghost use Rattle.yds_trace.specs.Asked as asking;
 ghost use Rattle.yds_trace.specs.Faults.{processors_fault};
 ghost use Rattle.yds_trace.specs.Past as spec;
-ghost use Rattle.yds_trace.specs.Kept.{IsPast, TellsSpeeds, told_on, came_by};
-ghost use Rattle.yds_trace.specs.Steps.{leaving_after, step_of};
+ghost use Rattle.yds_trace.specs.Kept.{HaveCome, IsPast, TellsSpeeds, told_on, came_by, unlisted};
+ghost use Rattle.yds_trace.specs.Jobs.{came_unlisted, leaving_at};
+ghost use Rattle.yds_trace.specs.Late.{last_asked};
+ghost use Rattle.yds_trace.specs.Tally.{silence, silence_on};
 ghost use Rattle.yds_trace.specs.Views.{start_read, speed_read};
 
 use crate::asked::{Start, StartSpeed};
 use crate::job::Leaving;
 use crate::places::{at, put_at};
-use crate::step::Step;
+use crate::tally::Silence;
 use base::Memory;
 use std::alloc::Global;
 use yds_kernel::{Event, Happening, Since};
@@ -20,8 +22,10 @@ use yds_kernel::{Event, Happening, Since};
 /// What a processor's lines told since events were last lost, or since the trace's begin.
 #[derive(Clone, Copy, Debug, PartialEq, Eq)]
 pub(crate) struct Told {
-    /// Whether it has switched.
-    pub switched: bool,
+    /// The time of its first line.
+    pub since: Option<u64>,
+    /// When it switched last.
+    pub switched: Option<u64>,
     /// Its speed in kilohertz, where it is known.
     pub khz: Option<u64>,
     /// The number of who came to it last, where that is told.
@@ -31,10 +35,11 @@ pub(crate) struct Told {
 impl Told {
     /// Nothing yet, but for this speed.
     fn nothing(khz: Option<u64>) -> Told
-        ensures { result ≡ record { switched = false; khz = khz; came = None } }
+        ensures { result ≡ record { since = None; switched = None; khz = khz; came = None } }
     {
         Told {
-            switched: false,
+            since: None,
+            switched: None,
             khz,
             came: None,
         }
@@ -68,10 +73,10 @@ pub(crate) struct Past {
     pub first: Option<u64>,
     /// The time of the last one, or 0.
     pub last: u64,
-    /// The time of the first line after the last loss.
-    pub whole_since: Option<u64>,
     /// The speed of a processor whose lines haven't told it since the last loss.
     pub untold: Option<u64>,
+    /// The speed of each processor where events were lost.
+    pub lost: Option<u64>,
     /// The time of each processor's last line.
     pub lines: Vec<Option<u64>>,
     /// What each processor's lines told since the last loss.
@@ -85,23 +90,24 @@ impl Past {
         ensures came { IfOk result (λ past. (processor : ℕ) → (told_on past processor).came ≡ None) }
     {
         match start {
-            Start::Same(khz) => Ok(Past::begun(alloc, Some(*khz), Vec::new(alloc))),
-            Start::Listed(speeds) => Ok(Past::begun(alloc, None, first_told(alloc, speeds)?)),
+            Start::Fixed(khz) => Ok(Past::begun(alloc, Some(*khz), Some(*khz), Vec::new(alloc))),
+            Start::Same(khz) => Ok(Past::begun(alloc, Some(*khz), None, Vec::new(alloc))),
+            Start::Listed(speeds) => Ok(Past::begun(alloc, None, None, first_told(alloc, speeds)?)),
         }
     }
 
-    /// Before the first line, with what is told of some processors, and this speed of the others.
-    fn begun(alloc: Global, untold: Option<u64>, told: Vec<Told>) -> Past
-        ensures stands { (start : asking.Start) → ((processor : ℕ) → slice_index_or told.items processor (record { switched = false; khz = untold; came = None })
-            ≡ record { switched = false; khz = asking.start_of start processor; came = None }) → IsPast start [] result }
-        ensures came { ((processor : ℕ) → (slice_index_or told.items processor (record { switched = false; khz = untold; came = None })).came ≡ None)
+    /// Before the first line, with what is told of some processors, this speed of the others, and this one where events were lost.
+    fn begun(alloc: Global, untold: Option<u64>, lost: Option<u64>, told: Vec<Told>) -> Past
+        ensures stands { (start : asking.Start) → asking.lost_speed start ≡ lost → ((processor : ℕ) → slice_index_or told.items processor (record { since = None; switched = None; khz = untold; came = None })
+            ≡ record { since = None; switched = None; khz = asking.start_of start processor; came = None }) → IsPast start [] result }
+        ensures came { ((processor : ℕ) → (slice_index_or told.items processor (record { since = None; switched = None; khz = untold; came = None })).came ≡ None)
             → (processor : ℕ) → (told_on result processor).came ≡ None }
     {
         Past {
             first: None,
             last: 0,
-            whole_since: None,
             untold,
+            lost,
             lines: Vec::new(alloc),
             told,
         }
@@ -125,13 +131,14 @@ impl Past {
         put_at(&mut self.lines, event.processor, Some(event.time), None)?;
         self.first = Some(self.first.unwrap_or(event.time));
         self.last = event.time;
-        self.whole_since = Some(self.whole_since.unwrap_or(event.time));
+        let before = self.told_on(event.processor);
+        let since = Some(before.since.unwrap_or(event.time));
         match event.happening {
             Happening::Switch { .. } => {
-                let khz = self.told_on(event.processor).khz;
                 let told = Told {
-                    switched: true,
-                    khz,
+                    since,
+                    switched: Some(event.time),
+                    khz: before.khz,
                     came,
                 };
                 put_at(
@@ -142,18 +149,43 @@ impl Past {
                 )?;
             }
             Happening::Speed { processor, khz } => {
-                let before = self.told_on(processor);
+                self.begin_lines(event.processor, before, since)?;
+                let other = self.told_on(processor);
                 let told = Told {
-                    switched: before.switched,
+                    since: other.since,
+                    switched: other.switched,
                     khz: Some(khz),
-                    came: before.came,
+                    came: other.came,
                 };
                 put_at(&mut self.told, processor, told, Told::nothing(self.untold))?;
             }
             Happening::Loss => self.forget(),
-            Happening::WakeUp { .. } | Happening::Marker | Happening::Other => {}
+            Happening::WakeUp { .. } | Happening::Marker | Happening::Other => {
+                self.begin_lines(event.processor, before, since)?;
+            }
         }
         Ok(())
+    }
+
+    /// A processor of which this was told has lines since this time.
+    fn begin_lines(
+        &mut self,
+        processor: u64,
+        before: Told,
+        since: Option<u64>,
+    ) -> Result<(), Memory>
+        requires { processor < 2 ^ 32 }
+        ensures lines { OnOk result (self.new ≡ record self.old { told = self.new.told }) }
+        ensures told { OnOk result ((other : ℕ) → slice_index_or self.new.told.items other (record { since = None; switched = None; khz = self.old.untold; came = None })
+            ≡ (if processor == other then record before { since = since } else told_on self.old other)) }
+    {
+        let told = Told {
+            since,
+            switched: before.switched,
+            khz: before.khz,
+            came: before.came,
+        };
+        put_at(&mut self.told, processor, told, Told::nothing(self.untold))
     }
 
     /// Takes a line without a stamp which says that events were lost.
@@ -169,13 +201,12 @@ impl Past {
     fn forget(&mut self)
         ensures first { self.new.first ≡ self.old.first }
         ensures last { self.new.last ≡ self.old.last }
-        ensures whole { self.new.whole_since ≡ None }
-        ensures untold { self.new.untold ≡ None }
+        ensures untold { self.new.untold ≡ self.old.lost }
+        ensures lost { self.new.lost ≡ self.old.lost }
         ensures lines { self.new.lines ≡ self.old.lines }
         ensures told { self.new.told.items ≡ [] }
     {
-        self.whole_since = None;
-        self.untold = None;
+        self.untold = self.lost;
         self.told.clear();
     }
 
@@ -194,7 +225,7 @@ impl Past {
     pub(crate) fn has_switched(&self, processor: u64) -> bool
         ensures { (start : asking.Start) (past : List Said) → IsPast start past self.now → result ≡ spec.has_switched processor past }
     {
-        self.told_on(processor).switched
+        self.told_on(processor).switched.is_some()
     }
 
     /// The number of who came to a processor last, where that is told.
@@ -207,9 +238,10 @@ impl Past {
     /// Whether a processor hasn't switched since a time before this boundary, by an event of this time.
     pub(crate) fn is_new(&self, processor: u64, time: u64, boundary: u64) -> bool
         ensures { (start : asking.Start) (past : List Said) → IsPast start past self.now
-            → result ≡ (not (spec.has_switched processor past) && nat_lt (spec.whole_since time past) boundary) }
+            → result ≡ (not (spec.has_switched processor past) && nat_lt (spec.lines_since processor time past) boundary) }
     {
-        !self.has_switched(processor) && self.whole_since.unwrap_or(time) < boundary
+        let told = self.told_on(processor);
+        told.switched.is_none() && told.since.unwrap_or(time) < boundary
     }
 
     /// The speed of a processor in kilohertz, where it is known.
@@ -219,42 +251,57 @@ impl Past {
         self.told_on(processor).khz
     }
 
-    /// What an event behind these lines is to a task.
-    pub(crate) fn step(&self, event: &Event<'_>) -> Step
-        ensures { (start : asking.Start) (past : List Said) → IsPast start past self.now → result ≡ step_of start past (event_read event.now) }
+    /// The longest time that a processor which wasn't left idle had no line before this time.
+    pub(crate) fn silence(&self, until: u64) -> Silence
+        ensures { (asked : asking.Asked) (past : List Said) → IsPast asked.start past self.now → HaveCome asked.tasks past self.now
+            → last_asked asked past ≡ until → result ≡ silence asked past }
     {
-        match event.happening {
-            Happening::Switch { state, .. } => Step::Switch {
-                state,
-                leaving: self.leaving(event),
-            },
-            Happening::WakeUp { starts, .. } => Step::WakeUp {
-                time: event.time,
-                starts,
-            },
-            Happening::Speed { processor, .. } => Step::Speed {
+        let mut silence = Silence::NONE;
+        for processor in 0..self.lines.len() {
+            silence = silence.longer(self.silence_on(processor as u64, until));
+        }
+        silence
+    }
+
+    /// The time from a processor's last line to this one; none where it was left idle.
+    fn silence_on(&self, processor: u64, until: u64) -> Silence
+        ensures { (asked : asking.Asked) (past : List Said) → IsPast asked.start past self.now → HaveCome asked.tasks past self.now
+            → last_asked asked past ≡ until → result ≡ silence_on asked past processor }
+    {
+        match at(&self.lines, processor, None) {
+            Some(since) if self.came(processor) != Some(0) => Silence {
                 processor,
-                time: event.time,
-                khz: self.speed(processor),
+                since,
+                lasted: until.saturating_sub(since),
             },
-            Happening::Loss => Step::Loss {
-                since: self.lost_since(event.processor, Since::ItsLastLine),
-            },
-            Happening::Marker | Happening::Other => Step::Nothing,
+            Some(_) | None => Silence::NONE,
         }
     }
 
-    /// Where and how a thread leaves a processor by a switch.
-    fn leaving(&self, event: &Event<'_>) -> Leaving
-        ensures { (start : asking.Start) (past : List Said) → IsPast start past self.now → result ≡ leaving_after start past (event_read event.now) }
+    /// Where and how a thread of this number leaves a processor by a switch.
+    pub(crate) fn leaving(&self, event: &Event<'_>, pid: u64) -> Leaving
+        ensures { (asked : asking.Asked) (past : List Said) (previous : Thread) → IsPast asked.start past self.now → HaveCome asked.tasks past self.now
+            → previous.pid ≡ pid → result ≡ leaving_at asked past (event_read event.now) previous }
     {
         let told = self.told_on(event.processor);
         Leaving {
             processor: event.processor,
             time: event.time,
             khz: told.khz,
-            has_switched: told.switched,
-            whole_since: self.whole_since.unwrap_or(event.time),
+            switched: told.switched,
+            lines_since: told.since.unwrap_or(event.time),
+            renamed: is_pid(pid, told.came),
         }
+    }
+}
+
+/// Whether who came has this number, and is told since it is no task.
+fn is_pid(pid: u64, came: Option<u64>) -> bool
+    ensures { (asked : asking.Asked) (who : Option Thread) (thread : Thread) → came ≡ unlisted asked.tasks who → thread.pid ≡ pid
+        → result ≡ came_unlisted asked thread who }
+{
+    match came {
+        Some(number) => number == pid,
+        None => false,
     }
 }

@@ -11,10 +11,12 @@ pub enum Reason {
     NotEnded,
     /// Events were lost while it was open, or before it is known to have ended.
     EventsLost,
-    /// A switch of its thread is missing.
+    /// Its thread's coming to a processor is missing.
     SwitchMissing,
     /// Its begin isn't in the trace.
     BeginUnseen,
+    /// It was due before it began, or less than a unit of time behind: a period behind the job before it.
+    DueBefore,
     /// It ran on another processor.
     Moved,
     /// It ran at a speed that the trace doesn't tell.

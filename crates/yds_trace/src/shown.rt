@@ -13,7 +13,7 @@ use crate::asked::Asked;
 use crate::ended::close;
 use crate::followed::Followed;
 use crate::job::Job;
-use crate::jobs::{copied, last_begin};
+use crate::jobs::copied;
 use crate::others::{Span, copied as copied_spans};
 use crate::past::Past;
 use crate::share::share_each;
@@ -30,8 +30,6 @@ pub struct ShownTask {
     pub before: bool,
     /// The jobs behind the forgotten ones, in order of begin. What still has its processor has had it until now.
     pub jobs: Vec<Job>,
-    /// The begin of the last job, in nanoseconds; 0 where there is none.
-    pub last_begin: u64,
 }
 
 /// What is known of all tasks, in their order.
@@ -59,7 +57,6 @@ impl ShownTask {
             forgotten: self.forgotten,
             before: self.before,
             jobs,
-            last_begin: self.last_begin,
         })
     }
 }
@@ -109,7 +106,6 @@ fn show(alloc: Global, followed: &Followed, past: &Past, until: u64) -> Result<S
         forgotten: followed.forgotten,
         before: followed.first_before(),
         jobs,
-        last_begin: last_begin(&followed.known.jobs),
     })
 }
 

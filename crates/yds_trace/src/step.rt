@@ -18,6 +18,8 @@ pub(crate) enum Step {
     Switch {
         state: State,
         leaving: Leaving,
+        /// Since when switches of tasks are missing before it, if some are.
+        missing: Option<u64>,
     },
     /// A thread is woken.
     WakeUp {
@@ -56,10 +58,15 @@ impl Step {
         ensures { result ≡ place_of self }
     {
         match self {
-            Step::Switch { leaving, .. } => Place::On(leaving.processor),
             Step::Speed { processor, .. } => Place::On(processor),
-            Step::Loss { .. } => Place::Everywhere,
-            Step::WakeUp { .. } | Step::Nothing => Place::Nowhere,
+            Step::Switch {
+                missing: Some(_),
+                ..
+            }
+            | Step::Loss { .. } => Place::Everywhere,
+            Step::Switch { missing: None, .. } | Step::WakeUp { .. } | Step::Nothing => {
+                Place::Nowhere
+            }
         }
     }
 }

@@ -4,12 +4,14 @@ ghost use Rattle.yds_kernel.specs.Event.{Thread, Said, Stamped};
 ghost use Rattle.yds_kernel.specs.Parts.{capped};
 ghost use Rattle.yds_kernel.specs.Views.{event_read};
 ghost use Rattle.yds_trace.specs.Asked as asking;
-ghost use Rattle.yds_trace.specs.Faults.{lost_just_before, is_behind_loss};
+ghost use Rattle.yds_trace.specs.Faults.{lost_just_before};
 ghost use Rattle.yds_trace.specs.Past.{last_time};
 ghost use Rattle.yds_trace.specs.Kept.{unlisted, HaveCome, IsPast, IsTallied};
 ghost use Rattle.yds_trace.specs.Steps.{whose, first_in};
 ghost use Rattle.yds_trace.specs.Tally as spec;
+ghost use Rattle.yds_trace.specs.Views.{asked_read};
 
+use crate::asked::Asked;
 use crate::past::Past;
 use crate::step::Whose;
 use crate::within::{is_after_from, is_before_to};
@@ -24,6 +26,45 @@ pub struct Pause {
     pub lasted: u64,
 }
 
+/// A processor's time without a line before the end of what is asked for, in nanoseconds.
+#[derive(Clone, Copy, Debug, PartialEq, Eq)]
+pub struct Silence {
+    /// Which processor it is.
+    pub processor: u64,
+    /// The time of its last line.
+    pub since: u64,
+    /// How long it was; 0 where there is none.
+    pub lasted: u64,
+}
+
+impl Silence {
+    /// No processor's.
+    pub(crate) const NONE: Silence = Silence {
+        processor: 0,
+        since: 0,
+        lasted: 0,
+    };
+
+    /// The longer one, or the first of equal ones.
+    pub(crate) fn longer(self, other: Silence) -> Silence
+        ensures { result ≡ spec.longer_silence self other }
+    {
+        if self.lasted < other.lasted {
+            other
+        } else {
+            self
+        }
+    }
+}
+
+impl Pause {
+    /// None.
+    pub(crate) const NONE: Pause = Pause {
+        since: 0,
+        lasted: 0,
+    };
+}
+
 /// What a trace lacks, or says that a reader should know, within what is asked for.
 #[derive(Clone, Copy, Debug, PartialEq, Eq)]
 pub struct Tally {
@@ -35,40 +76,40 @@ pub struct Tally {
     pub markers: u64,
     /// The longest time between two lines with a stamp.
     pub pause: Pause,
+    /// The longest time that a processor which wasn't left idle had no line before the end of what is asked for.
+    pub silence: Silence,
 }
 
 impl Tally {
     /// Before the first line.
     pub(crate) fn new() -> Tally
-        ensures { (from to : Option ℕ) (tasks : List asking.Task) → IsTallied from to tasks [] result }
+        ensures { (asked : asking.Asked) → IsTallied asked [] result }
     {
         Tally {
             losses: 0,
             missing: 0,
             markers: 0,
-            pause: Pause {
-                since: 0,
-                lasted: 0,
-            },
+            pause: Pause::NONE,
+            silence: Silence::NONE,
         }
     }
 
-    /// Takes an event, behind a loss or not.
+    /// Takes an event, at a place where lines are missing or not.
     pub(crate) fn take(
         &mut self,
-        from: Option<u64>,
-        to: Option<u64>,
-        behind_loss: bool,
+        asked: &Asked,
+        gap: bool,
         past: &Past,
         event: &Event<'_>,
         first: Whose,
     )
-        ensures { (start : asking.Start) (tasks : List asking.Task) (lines : List Said) → IsPast start lines past.now → HaveCome tasks lines past.now
-            → behind_loss ≡ is_behind_loss from to lines (event_read event.now)
-            → first ≡ first_in tasks (event_read event.now).happening
-            → IsTallied from to tasks lines self.old → IsTallied from to tasks (Stamped (event_read event.now) ∷ lines) self.new }
+        ensures { (lines : List Said) → IsPast (asked_read asked.now).start lines past.now → HaveCome (asked_read asked.now).tasks lines past.now
+            → gap ≡ spec.is_gap (asked_read asked.now) lines (event_read event.now)
+            → first ≡ first_in (asked_read asked.now).tasks (event_read event.now).happening
+            → IsTallied (asked_read asked.now) lines self.old → IsTallied (asked_read asked.now) (Stamped (event_read event.now) ∷ lines) self.new }
     {
-        count_if(behind_loss, &mut self.losses);
+        let (from, to) = (asked.from, asked.to);
+        count_if(gap, &mut self.losses);
         count_if(
             lacks_switch(from, to, past, event, first),
             &mut self.missing,
@@ -77,13 +118,14 @@ impl Tally {
         take_pause(from, to, past, event.time, &mut self.pause);
     }
 
-    /// The same, where the lines end here: behind a loss or not.
-    pub(crate) fn ended(self, behind_loss: bool) -> Tally
-        ensures { (asked : asking.Asked) (lines : List Said) → behind_loss ≡ lost_just_before asked.to lines
-            → IsTallied asked.from asked.to asked.tasks lines self → result ≡ spec.tally_of asked lines }
+    /// The same, where the lines end here: behind a loss or not, and with this silence.
+    pub(crate) fn ended(self, behind_loss: bool, silence: Silence) -> Tally
+        ensures { (asked : asking.Asked) (lines : List Said) → behind_loss ≡ lost_just_before asked.to lines → silence ≡ spec.silence asked lines
+            → IsTallied asked lines self → result ≡ spec.tally_of asked lines }
     {
         let mut tally = self;
         count_if(behind_loss, &mut tally.losses);
+        tally.silence = silence;
         tally
     }
 }

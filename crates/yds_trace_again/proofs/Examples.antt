@@ -36,7 +36,7 @@ lines = reverse (at 1000 (WakeUp thread true) ∷ at 1020 (Switch idle states.Go
 -- A unit of time is 10 nanoseconds, one of speed 1 kilohertz.
 abbrev asked : Asked
 asked = record {
-  tasks = record { label = codes "t"; thread = Named (codes "t"); deadline = 100; apart = 0 } ∷ [];
+  tasks = record { label = codes "t"; thread = Named (codes "t"); deadline = 100; apart = 0; period = 0 } ∷ [];
   processor = 0;
   unit = 10;
   khz = 1;

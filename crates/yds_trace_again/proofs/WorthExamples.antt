@@ -29,7 +29,7 @@ abbrev line_of : ℕ → ℕ → Happening → Said
 line_of processor time happening = Stamped (record { processor = processor; time = time; happening = happening })
 
 abbrev task_due : ℕ → List ℕ → Task
-task_due deadline name = record { label = name; thread = Named name; deadline = deadline; apart = 0 }
+task_due deadline name = record { label = name; thread = Named name; deadline = deadline; apart = 0; period = 0 }
 
 -- Jobs of `t` are due 100 nanoseconds after their begin, those of `u` 41.
 abbrev asked : Asked

@@ -11,7 +11,7 @@ use Rattle.yds_trace.specs.Asked.{Asked}
 use Rattle.yds_trace_document.specs.Part.{part_limit_fault}
 use Rattle.yds_trace_document.specs.LeftOut.{most_left_out}
 use Rattle.yds_trace.specs.WrittenTime.{Units}
-use Rattle.yds_trace_document.specs.Limits.{fault_if, is_long_name, is_beyond, is_heavy, works_of, unit_for, greatest, work_fault, job_fault, speed_fault, missed_fault, limit_fault}
+use Rattle.yds_trace_document.specs.Limits.{fault_if, is_long_name, is_beyond, is_heavy, works_of, unit_for, greatest, work_fault, job_fault, speed_fault, late_fault, limit_fault}
 use Rattle.yds_trace_document.proofs.Lists.{position_map}
 
 -- # The same faults
@@ -74,7 +74,7 @@ shaped strict settled count job =
     (or_else job
     (or_else (speed_fault settled.units settled.judged)
     (or_else (fault_if (count == 0) (faults.NoJob (most_left_out settled.judged)))
-    (if strict then missed_fault settled.judged else None)))))
+    (late_fault strict settled.judged)))))
 
 pub limits_same : (strict : Bool) (settled : Settled) → limit_fault strict (with_capped_works settled) ≡ limit_fault strict settled
 limits_same strict settled =
@@ -131,7 +131,7 @@ heavy_none units jobs none =
 abbrev behind_jobs : Bool → Settled → Option DocumentFault
 behind_jobs strict settled =
     or_else (speed_fault settled.units settled.judged)
-    (or_else (fault_if (length settled.document.jobs == 0) (faults.NoJob (most_left_out settled.judged))) (if strict then missed_fault settled.judged else None))
+    (or_else (fault_if (length settled.document.jobs == 0) (faults.NoJob (most_left_out settled.judged))) (late_fault strict settled.judged))
 
 job_none : (strict : Bool) (settled : Settled) → limit_fault strict settled ≡ None → job_fault settled.units settled.document.jobs ≡ None
 job_none strict settled none =
@@ -153,7 +153,7 @@ within_caps strict settled none =
 
 abbrev part_shaped : Asked → Bool → Cut → Settled → Bool → Option DocumentFault → Option DocumentFault
 part_shaped asked strict cut settled none limit =
-    if (asked.everywhere || nat_lt 0 cut.parts) && none then (if strict then missed_fault settled.judged else None) else limit
+    if (asked.everywhere || nat_lt 0 cut.parts) && none then late_fault strict settled.judged else limit
 
 pub part_limits_same : (asked : Asked) (strict : Bool) (cut : Cut) (settled : Settled) →
     part_limit_fault asked strict cut (with_capped_works settled) ≡ part_limit_fault asked strict cut settled
@@ -165,7 +165,7 @@ no_jobs [] none = refl
 no_jobs (job ∷ jobs) none = absurd (omega (arith, eqb-true (length (job ∷ jobs)) 0 none))
 
 within_one : (strict more none : Bool) (cut : Cut) (settled : Settled) → (length settled.document.jobs == 0) ≡ none →
-    (if more && none then (if strict then missed_fault settled.judged else None) else limit_fault strict settled) ≡ None →
+    (if more && none then late_fault strict settled.judged else limit_fault strict settled) ≡ None →
     with_capped_works settled ≡ settled
 within_one strict true true cut settled is none = ap (with_jobs settled) (no_jobs settled.document.jobs is)
 within_one strict true false cut settled is none = within_caps strict settled none

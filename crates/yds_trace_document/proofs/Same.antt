@@ -11,7 +11,7 @@ use Rattle.yds_trace.specs.Tally.{tally_of}
 use Rattle.yds_trace.specs.Asked.{Task, Asked, no_task, task_at, is_after_from}
 use Rattle.yds_trace.specs.Past.{first_time, last_time}
 use Rattle.yds_trace.specs.Jobs.{Job}
-use Rattle.yds_trace.specs.Late.{due, is_open, late_by}
+use Rattle.yds_trace.specs.Late.{due, is_open, late_by, is_unsure}
 use Rattle.yds_trace.specs.Ended.{IsEnded, in_order_of_begin, jobs_from}
 use Rattle.yds_trace.specs.Others.{Span, spans_within, others_of}
 use Rattle.yds_trace.specs.Views.{asked_read, span_read}
@@ -31,29 +31,30 @@ reached_same : (to : Option ℕ) (last : ℕ) → is_to_reached to last ≡ (eli
 reached_same None last = refl
 reached_same (Some time) last = refl
 
-abbrev reason_by : Asked → Task → Job → ℕ → Bool → Option Reason
-reason_by asked task job last reached =
+abbrev reason_by : Asked → ℕ → Task → Job → ℕ → Bool → Option Reason
+reason_by asked first task job last reached =
     if not (is_after_from asked.from job.begin) then Some reasons.BeforeFrom
     else (if is_lost last job.end then Some reasons.EventsLost
     else (if job.switch_missing then Some reasons.SwitchMissing
     else (if is_open job.end && is_none (late_by asked.from last (due task job) job.end)
-    then Some (if reached then reasons.AfterTo else reasons.NotEnded) else run_reason asked.processor job)))
+    then Some (if reached then reasons.AfterTo else reasons.NotEnded) else run_reason (within_of asked first last) (due task job) job)))
 
-abbrev judged_by : Asked → ℕ → Task → Bool → ℕ × Job → ℕ → Bool → Judged
-judged_by asked number task before numbered last reached = record {
+abbrev judged_by : Asked → ℕ → ℕ → Task → Bool → ℕ × Job → ℕ → Bool → Judged
+judged_by asked first number task before numbered last reached = record {
   task = number;
   name = named task.label before numbered.0;
   part = if numbered.1.shared then Some asked.processor else None;
   job = numbered.1;
   due = due task numbered.1;
   late = late_by asked.from last (due task numbered.1) numbered.1.end;
-  reason = reason_by asked task numbered.1 last reached;
+  unsure = is_unsure asked task first last numbered.1;
+  reason = reason_by asked first task numbered.1 last reached;
 }
 
 pub one_same : (asked : Asked) (past : List Said) (number : ℕ) (before : Bool) (numbered : ℕ × Job) →
-    judged_at (within_of asked (last_time past)) number (task_at asked number) before numbered ≡ judged asked past number before numbered
+    judged_at (within_of asked (first_time 0 past) (last_time past)) number (task_at asked number) before numbered ≡ judged asked past number before numbered
 one_same asked past number before numbered =
-    ap₂ (judged_by asked number (task_at asked number) before numbered) (last_same asked.to (last_time past)) (reached_same asked.to (last_time past))
+    ap₂ (judged_by asked (first_time 0 past) number (task_at asked number) before numbered) (last_same asked.to (last_time past)) (reached_same asked.to (last_time past))
 
 -- # The jobs of the tasks
 
@@ -62,24 +63,24 @@ map_same f g each [] = refl
 map_same {A} {B} f g each (x ∷ xs) = ap₂ (λ (y : B) (ys : List B). y ∷ ys) (each x) (map_same f g each xs)
 
 task_same : (asked : Asked) (past : List Said) (number : ℕ) (task : Task) → task_at asked number ≡ task →
-    judged_task (within_of asked (last_time past)) number task (shares_of asked past number) ≡ judged_of asked past number
+    judged_task (within_of asked (first_time 0 past) (last_time past)) number task (shares_of asked past number) ≡ judged_of asked past number
 task_same asked past number task is =
-    ap (λ (t : Task). judged_task (within_of asked (last_time past)) number t (shares_of asked past number)) (sym is)
-    ∙ ap (λ (before : Bool). judged_jobs (within_of asked (last_time past)) number (task_at asked number) before 0 (shares_of asked past number))
+    ap (λ (t : Task). judged_task (within_of asked (first_time 0 past) (last_time past)) number t (shares_of asked past number)) (sym is)
+    ∙ ap (λ (before : Bool). judged_jobs (within_of asked (first_time 0 past) (last_time past)) number (task_at asked number) before 0 (shares_of asked past number))
     (shares_began_before asked (jobs_of asked past number))
-    ∙ map_same (judged_at (within_of asked (last_time past)) number (task_at asked number) (began_before (jobs_of asked past number)))
+    ∙ map_same (judged_at (within_of asked (first_time 0 past) (last_time past)) number (task_at asked number) (began_before (jobs_of asked past number)))
     (judged asked past number (began_before (jobs_of asked past number)))
     (one_same asked past number (began_before (jobs_of asked past number))) (enumerate_from 0 (shares_of asked past number))
 
 tasks_same : (asked : Asked) (past : List Said) (front tasks : List Task) → asked.tasks ≡ front ++ tasks →
-    judged_tasks (within_of asked (last_time past)) (length front) tasks (jobs_from asked past (length front) tasks)
+    judged_tasks (within_of asked (first_time 0 past) (last_time past)) (length front) tasks (jobs_from asked past (length front) tasks)
     ≡ judged_by_task asked past (length front) tasks
 tasks_same asked past front [] is = refl
 tasks_same asked past front (task ∷ tasks) is =
     let here : task_at asked (length front) ≡ task =
     ap (λ (ts : List Task). get_or ts (length front) no_task) is ∙ get_or_at front task tasks no_task (length front) refl in
     let counted : length (front ++ task ∷ []) ≡ length front + 1 = omega (arith, length_push front task) in
-    let rest = subst (λ (n : ℕ). judged_tasks (within_of asked (last_time past)) n tasks (jobs_from asked past n tasks) ≡ judged_by_task asked past n tasks)
+    let rest = subst (λ (n : ℕ). judged_tasks (within_of asked (first_time 0 past) (last_time past)) n tasks (jobs_from asked past n tasks) ≡ judged_by_task asked past n tasks)
     counted (tasks_same asked past (front ++ task ∷ []) tasks (is ∙ sym (append_assoc front (task ∷ []) tasks))) in
     ap₂ (λ (one : List Judged) (more : List (List Judged)). one ∷ more) (task_same asked past (length front) task here) rest
 
@@ -151,15 +152,15 @@ settled_same asked past first by_task others tally begins are told lacks =
     (ap₂ (λ (made : Units) (spans : List Span). spans_within made.zero None spans) units told) lacks jobs runs
 
 pub kept_same : (ended : EndedKept) (asked : Asked) (past : List Said) (by_task : List (List Judged)) (others : List Span) → IsEnded asked past ended →
-    by_task ≡ judged_tasks (within_of (asked_read ended.asked) ended.last) 0 (asked_read ended.asked).tasks (map in_order_of_begin ended.jobs.items) →
+    by_task ≡ judged_tasks (within_of (asked_read ended.asked) ended.first ended.last) 0 (asked_read ended.asked).tasks (map in_order_of_begin ended.jobs.items) →
     others ≡ map span_read ended.others.items →
     settled_at (asked_read ended.asked) ended.first by_task others ended.tally ≡ with_capped_works (settled_of asked past)
 kept_same ended asked past by_task others is are told =
     ap (λ (a : Asked). settled_at a ended.first by_task others ended.tally) is.same_asked
     ∙ settled_same asked past ended.first by_task others ended.tally is.first
     (are
-    ∙ ap (λ (a : Asked). judged_tasks (within_of a ended.last) 0 a.tasks (map in_order_of_begin ended.jobs.items)) is.same_asked
-    ∙ ap (λ (last : ℕ). judged_tasks (within_of asked last) 0 asked.tasks (map in_order_of_begin ended.jobs.items)) is.last
-    ∙ ap (judged_tasks (within_of asked (last_time past)) 0 asked.tasks) is.jobs
+    ∙ ap (λ (a : Asked). judged_tasks (within_of a ended.first ended.last) 0 a.tasks (map in_order_of_begin ended.jobs.items)) is.same_asked
+    ∙ ap₂ (λ (first last : ℕ). judged_tasks (within_of asked first last) 0 asked.tasks (map in_order_of_begin ended.jobs.items)) is.first is.last
+    ∙ ap (judged_tasks (within_of asked (first_time 0 past) (last_time past)) 0 asked.tasks) is.jobs
     ∙ tasks_same asked past [] asked.tasks refl)
     (told ∙ is.others) is.tally

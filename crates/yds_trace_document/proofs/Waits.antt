@@ -4,7 +4,7 @@ use Rattle.yds_kernel.specs.Event.{Said}
 use Rattle.yds_trace.specs.declared.cut.Cut.{Cut}
 use Rattle.yds_trace.specs.declared.shown.ShownTask.{ShownTask}
 use Rattle.yds_trace.specs.Asked.{Task, Asked, no_task, task_at}
-use Rattle.yds_trace.specs.Past.{last_time}
+use Rattle.yds_trace.specs.Past.{first_time, last_time}
 use Rattle.yds_trace.specs.Jobs.{Job}
 use Rattle.yds_trace.specs.Shown.{IsShownTask}
 use Rattle.yds_trace.specs.Views.{job_read}
@@ -69,18 +69,18 @@ kept_left within number task before boundary forgotten jobs earlier =
 
 shown_same : (asked : Asked) (past : List Said) (cut : Cut) (number : ℕ) (task : Task) (shown : ShownTask) → task_at asked number ≡ task →
     IsShownTask (shares_of asked past number) asked past cut.boundary number shown →
-    shown_task (within_of asked (last_time past)) cut.boundary number task shown ≡ filter (begins_from cut.boundary) (judged_of asked past number)
+    shown_task (within_of asked (first_time 0 past) (last_time past)) cut.boundary number task shown ≡ filter (begins_from cut.boundary) (judged_of asked past number)
 shown_same asked past cut number task shown is known =
     ap₂ (λ (before : Bool) (first : ℕ). filter (begins_from cut.boundary)
-    (judged_jobs (within_of asked (last_time past)) number task before first (map job_read shown.jobs.items))) known.before known.as_many
-    ∙ sym (kept_left (within_of asked (last_time past)) number task (began_before (jobs_of asked past number)) cut.boundary known.forgotten
+    (judged_jobs (within_of asked (first_time 0 past) (last_time past)) number task before first (map job_read shown.jobs.items))) known.before known.as_many
+    ∙ sym (kept_left (within_of asked (first_time 0 past) (last_time past)) number task (began_before (jobs_of asked past number)) cut.boundary known.forgotten
     (map job_read shown.jobs.items) known.earlier)
     ∙ ap (λ (jobs : List Job). filter (begins_from cut.boundary)
-    (judged_jobs (within_of asked (last_time past)) number task (began_before (jobs_of asked past number)) 0 jobs)) (sym known.jobs)
+    (judged_jobs (within_of asked (first_time 0 past) (last_time past)) number task (began_before (jobs_of asked past number)) 0 jobs)) (sym known.jobs)
     ∙ ap (λ (t : Task). filter (begins_from cut.boundary)
-    (judged_jobs (within_of asked (last_time past)) number t (began_before (jobs_of asked past number)) 0 (shares_of asked past number))) (sym is)
+    (judged_jobs (within_of asked (first_time 0 past) (last_time past)) number t (began_before (jobs_of asked past number)) 0 (shares_of asked past number))) (sym is)
     ∙ ap (filter (begins_from cut.boundary))
-    (map_same (judged_at (within_of asked (last_time past)) number (task_at asked number) (began_before (jobs_of asked past number)))
+    (map_same (judged_at (within_of asked (first_time 0 past) (last_time past)) number (task_at asked number) (began_before (jobs_of asked past number)))
     (judged asked past number (began_before (jobs_of asked past number)))
     (one_same asked past number (began_before (jobs_of asked past number))) (enumerate_from 0 (shares_of asked past number)))
 
@@ -89,7 +89,7 @@ shown_same asked past cut number task shown is known =
 tasks_shown : (asked : Asked) (past : List Said) (cut : Cut) (front tasks : List Task) (shown : List ShownTask) → asked.tasks ≡ front ++ tasks →
     length shown ≡ length tasks →
     ((i : ℕ) (d : ShownTask) → i < length tasks → IsShownTask (shares_of asked past (length front + i)) asked past cut.boundary (length front + i) (get_or shown i d)) →
-    shown_tasks (within_of asked (last_time past)) cut.boundary (length front) tasks shown ≡ waiting_by_task asked past cut (length front) tasks
+    shown_tasks (within_of asked (first_time 0 past) (last_time past)) cut.boundary (length front) tasks shown ≡ waiting_by_task asked past cut (length front) tasks
 tasks_shown asked past cut front [] shown is same each = refl
 tasks_shown asked past cut front (task ∷ tasks) [] is same each = absurd (omega arith)
 tasks_shown asked past cut front (task ∷ tasks) (one ∷ shown) is same each =
@@ -101,13 +101,13 @@ tasks_shown asked past cut front (task ∷ tasks) (one ∷ shown) is same each =
     let later : (i : ℕ) (d : ShownTask) → i < length tasks → IsShownTask (shares_of asked past (length (front ++ task ∷ []) + i)) asked past cut.boundary (length (front ++ task ∷ []) + i) (get_or shown i d) =
     λ i d within. subst (λ (n : ℕ). IsShownTask (shares_of asked past n) asked past cut.boundary n (get_or shown i d))
     (let e : length front + suc i ≡ length (front ++ task ∷ []) + i = omega (arith, counted) in e) (each (suc i) d (omega arith)) in
-    let rest = subst (λ (n : ℕ). shown_tasks (within_of asked (last_time past)) cut.boundary n tasks shown ≡ waiting_by_task asked past cut n tasks)
+    let rest = subst (λ (n : ℕ). shown_tasks (within_of asked (first_time 0 past) (last_time past)) cut.boundary n tasks shown ≡ waiting_by_task asked past cut n tasks)
     counted (tasks_shown asked past cut (front ++ task ∷ []) tasks shown (is ∙ sym (append_assoc front (task ∷ []) tasks)) (omega (arith, same)) later) in
     ap₂ (λ (some : List Judged) (more : List (List Judged)). some ∷ more) (shown_same asked past cut (length front) task one here first) rest
 
 pub all_shown : (asked : Asked) (past : List Said) (cut : Cut) (shown : List ShownTask) → length shown ≡ length asked.tasks →
     ((i : ℕ) (d : ShownTask) → i < length asked.tasks → IsShownTask (shares_of asked past i) asked past cut.boundary i (get_or shown i d)) →
-    shown_tasks (within_of asked (last_time past)) cut.boundary 0 asked.tasks shown ≡ waiting_by_task asked past cut 0 asked.tasks
+    shown_tasks (within_of asked (first_time 0 past) (last_time past)) cut.boundary 0 asked.tasks shown ≡ waiting_by_task asked past cut 0 asked.tasks
 all_shown asked past cut shown same each =
     tasks_shown asked past cut [] asked.tasks shown refl same
     (λ i d within. subst (λ (n : ℕ). IsShownTask (shares_of asked past n) asked past cut.boundary n (get_or shown i d)) (let e : i ≡ 0 + i = omega arith in e) (each i d within))

@@ -1,5 +1,5 @@
 -- The definitions of a document by what is kept at a trace's end: its first and its last time stand in the place of its lines.
-use Rattle.std.specs.Prelude.{◌≡◌, ◌≤◌, ℕ, ◌+◌, List, [], ◌∷◌, map, filter, min, length, decimal, not, Bool, false, ◌&&◌, nat_lt, nat_le, if◌then◌else◌, Option, Some, None, is_none, unwrap_or, Vec}
+use Rattle.std.specs.Prelude.{◌≡◌, ◌≤◌, ℕ, ◌+◌, List, [], ◌∷◌, map, filter, max, min, length, decimal, not, Bool, false, ◌&&◌, ◌||◌, nat_lt, nat_le, if◌then◌else◌, Option, Some, None, is_none, unwrap_or, Vec}
 use Rattle.std.specs.List.{list_any, filter_map, flat_map, enumerate_from, All}
 use Rattle.std.specs.declared.alloc.Global.{Global}
 use Rattle.yds_kernel.specs.declared.limits.TheConstants.{MAX_U64}
@@ -7,6 +7,7 @@ use Rattle.yds_trace.specs.declared.limits.TheConstants.{MAX_TIME, MAX_DEADLINE}
 use Rattle.yds_trace.specs.declared.asked.Asked.{Asked as AskedKept}
 use Rattle.yds_trace.specs.declared.shown.ShownTask.{ShownTask as ShownTaskKept}
 use Rattle.yds_trace.specs.declared.shown.Shown.{Shown as ShownKept}
+use Rattle.yds_trace.specs.declared.job.End.{End}
 use Rattle.yds_trace.specs.declared.job.Job.{Job as JobKept}
 use Rattle.yds_trace.specs.declared.ended.Ended.{Ended as EndedKept}
 use Rattle.yds_trace.specs.declared.reason.Reason.{Reason}
@@ -17,13 +18,18 @@ use Rattle.yds_trace.specs.Views.{job_read}
 use Rattle.yds_trace.specs.Others.{Span, spans_within}
 use Rattle.yds_trace.specs.declared.tally.Tally.{Tally}
 use Rattle.yds_trace.specs.Parts.{begins_from}
-use Rattle.yds_trace.specs.Late.{due, is_open, late_by}
+use Rattle.yds_trace.specs.Late.{due, is_open, late_by, over_by}
 use Rattle.yds_trace.specs.WrittenTime.{Units, Run, before}
 use Rattle.yds_trace.specs.Document.{is_lost, is_elsewhere, is_of_unknown_speed, named, began_before, Judged, in_order, stands, least_of, least_begin, Written, written_of, Placed, all_runs}
 use Rattle.yds_trace_document.specs.Settled.{Settled, with_capped_work}
 
+-- its begin isn't above its limit, nor is the time from which its deadline counts
+pub record IsPlainJob (job : JobKept) : Type 0 where
+  pub begin : job.begin ≤ MAX_TIME
+  pub due_from : job.due_from ≤ MAX_TIME
+
 abbrev pub HaveBegins : List (Vec JobKept Global) → Type 0
-HaveBegins by_task = All (λ (jobs : Vec JobKept Global). All (λ job. job.begin ≤ MAX_TIME) jobs.items) by_task
+HaveBegins by_task = All (λ (jobs : Vec JobKept Global). All IsPlainJob jobs.items) by_task
 
 -- what a call needs to know of what is kept
 pub record IsPlain (ended : EndedKept) : Type 0 where
@@ -33,9 +39,9 @@ pub record IsPlain (ended : EndedKept) : Type 0 where
   pub begins : HaveBegins ended.jobs.items
   pub of_each_task : length ended.jobs.items ≡ length ended.asked.tasks.items
 
--- what a call needs to know of what is shown of a task: no begin is above its limit, and its jobs can be numbered
+-- what a call needs to know of what is shown of a task: its jobs are plain, and can be numbered
 pub record IsPlainTask (shown : ShownTaskKept) : Type 0 where
-  pub begins : All (λ job. job.begin ≤ MAX_TIME) shown.jobs.items
+  pub begins : All IsPlainJob shown.jobs.items
   pub numbers : shown.forgotten + length shown.jobs.items ≤ MAX_U64
 
 -- and of all tasks
@@ -67,29 +73,49 @@ is_to_reached (Some to) last = nat_le to last
 abbrev pub open_reason : Option ℕ → ℕ → Reason
 open_reason to last = if is_to_reached to last then reasons.AfterTo else reasons.NotEnded
 
-abbrev pub run_reason : ℕ → Job → Option Reason
-run_reason processor job =
-    if not job.begin_known then Some reasons.BeginUnseen
-    else (if list_any (is_elsewhere processor) job.stretches then Some reasons.Moved
-    else (if list_any is_of_unknown_speed job.stretches then Some reasons.SpeedUnknown else None))
-
 -- what is asked for, beside the tasks
 pub record Within : Type 0 where
   pub processor : ℕ
   pub from : Option ℕ
   pub to : Option ℕ
-  -- the trace's last time
+  pub unit : ℕ
+  pub begin_at_run : Bool
+  pub cut_losses : Bool
+  -- the trace's first and its last time
+  pub first : ℕ
   pub last : ℕ
 
-abbrev pub reason_at : Within → Option ℕ → Job → Option Reason
-reason_at within late job =
+-- a job that is due at this time
+abbrev pub run_reason : Within → ℕ → Job → Option Reason
+run_reason within deadline job =
+    if not job.begin_known then Some reasons.BeginUnseen
+    else (if nat_lt deadline (job.begin + within.unit) then Some reasons.DueBefore
+    else (if list_any (is_elsewhere within.processor) job.stretches then Some reasons.Moved
+    else (if list_any is_of_unknown_speed job.stretches then Some reasons.SpeedUnknown else None)))
+
+abbrev pub reason_at : Within → ℕ → Option ℕ → Job → Option Reason
+reason_at within deadline late job =
     if not (is_after_from within.from job.begin) then Some reasons.BeforeFrom
     else (if is_lost (last_of within.to within.last) job.end then Some reasons.EventsLost
     else (if job.switch_missing then Some reasons.SwitchMissing
-    else (if is_open job.end && is_none late then Some (open_reason within.to within.last) else run_reason within.processor job)))
+    else (if is_open job.end && is_none late then Some (open_reason within.to within.last) else run_reason within deadline job)))
 
 abbrev pub late_at : Within → Task → Job → Option ℕ
 late_at within task job = late_by within.from (last_of within.to within.last) (due task job) job.end
+
+-- the earliest that its deadline may count from
+abbrev pub earliest_at : Within → Job → ℕ
+earliest_at within job = if job.begin_known || within.begin_at_run then job.due_from else max within.first (unwrap_or within.from 0)
+
+-- Its earliest deadline is no later than this time, and it isn't known to be over by then.
+abbrev pub may_be_late_by : ℕ → ℕ → End → Bool
+may_be_late_by last earliest end = nat_le earliest last && not (over_by earliest end)
+
+-- whether it isn't known if it is late
+abbrev pub unsure_at : Within → Task → Option ℕ → Job → Bool
+unsure_at within task late job =
+    not within.cut_losses && is_after_from within.from job.begin && is_none late
+    && may_be_late_by (last_of within.to within.last) (earliest_at within job + task.deadline) job.end
 
 abbrev pub judged_at : Within → ℕ → Task → Bool → ℕ × Job → Judged
 judged_at within number task before numbered = record {
@@ -99,7 +125,8 @@ judged_at within number task before numbered = record {
   job = numbered.1;
   due = due task numbered.1;
   late = late_at within task numbered.1;
-  reason = reason_at within (late_at within task numbered.1) numbered.1;
+  unsure = unsure_at within task (late_at within task numbered.1) numbered.1;
+  reason = reason_at within (due task numbered.1) (late_at within task numbered.1) numbered.1;
 }
 
 -- a task's jobs behind so many first ones; `before` says whether the first of all began before the trace
@@ -178,8 +205,17 @@ abbrev pub settled_at : Asked → ℕ → List (List Judged) → List Span → T
 settled_at asked first by_task others tally =
     capped_from (units_at asked first (in_order begin_of (together by_task))) by_task (in_order begin_of (together by_task)) others tally
 
-abbrev pub within_of : Asked → ℕ → Within
-within_of asked last = record { processor = asked.processor; from = asked.from; to = asked.to; last = last }
+abbrev pub within_of : Asked → ℕ → ℕ → Within
+within_of asked first last = record {
+  processor = asked.processor;
+  from = asked.from;
+  to = asked.to;
+  unit = asked.unit;
+  begin_at_run = asked.begin_at_run;
+  cut_losses = asked.cut_losses;
+  first = first;
+  last = last;
+}
 
 -- the runs of the job at this place
 abbrev pub placed_of : ℕ → List Run → List Placed

@@ -14,8 +14,9 @@ reason_number reasons.NotEnded = 2
 reason_number reasons.EventsLost = 3
 reason_number reasons.SwitchMissing = 4
 reason_number reasons.BeginUnseen = 5
-reason_number reasons.Moved = 6
-reason_number reasons.SpeedUnknown = 7
+reason_number reasons.DueBefore = 6
+reason_number reasons.Moved = 7
+reason_number reasons.SpeedUnknown = 8
 
 abbrev pub is_for : Reason → Option Reason → Bool
 is_for reason None = false
@@ -24,7 +25,7 @@ is_for reason (Some other) = reason_number other == reason_number reason
 abbrev pub every_reason : List Reason
 every_reason =
     reasons.BeforeFrom ∷ reasons.AfterTo ∷ reasons.NotEnded ∷ reasons.EventsLost ∷ reasons.SwitchMissing ∷ reasons.BeginUnseen
-    ∷ reasons.Moved ∷ reasons.SpeedUnknown ∷ []
+    ∷ reasons.DueBefore ∷ reasons.Moved ∷ reasons.SpeedUnknown ∷ []
 
 -- how many of these jobs have this reason
 abbrev pub count_for : List Judged → Reason → ℕ

@@ -100,7 +100,15 @@ speed_fault units judged =
 abbrev pub missed_fault : List Judged → Option DocumentFault
 missed_fault judged = option_map (λ place. faults.Missed place) (position is_missed judged)
 
--- With `strict` no job may be missed. A document without a job is feasible, so none is written; why most jobs aren't is told.
+-- It isn't known of a job whether it is late.
+abbrev pub unsure_fault : List Judged → Option DocumentFault
+unsure_fault judged = option_map (λ place. faults.NotKnown place) (position (λ one. one.unsure) judged)
+
+-- Of each job it has to be known whether it is late, and with `strict` none may be missed.
+abbrev pub late_fault : Bool → List Judged → Option DocumentFault
+late_fault strict judged = or_else (unsure_fault judged) (if strict then missed_fault judged else None)
+
+-- A document without a job is feasible, so none is written; why most jobs aren't is told.
 abbrev pub limit_fault : Bool → Settled → Option DocumentFault
 limit_fault strict settled =
     or_else (fault_if (nat_lt MAX_JOBS (length settled.document.jobs)) faults.TooManyJobs)
@@ -108,4 +116,4 @@ limit_fault strict settled =
     (or_else (job_fault settled.units settled.document.jobs)
     (or_else (speed_fault settled.units settled.judged)
     (or_else (fault_if (length settled.document.jobs == 0) (faults.NoJob (most_left_out settled.judged)))
-    (if strict then missed_fault settled.judged else None)))))
+    (late_fault strict settled.judged)))))

@@ -1,5 +1,5 @@
 -- What is settled of the jobs of a part: as that of a document, with times of its own.
-use Rattle.std.specs.Prelude.{ℕ, ◌+◌, ◌-◌, ◌*◌, ◌/◌, List, [], ◌∷◌, map, filter, length, max, Bool, ◌==◌, ◌&&◌, ◌||◌, nat_lt, if◌then◌else◌, Option, None, unwrap_or}
+use Rattle.std.specs.Prelude.{ℕ, ◌+◌, ◌-◌, ◌*◌, ◌/◌, List, [], ◌∷◌, map, filter, length, max, Bool, ◌==◌, ◌&&◌, ◌||◌, nat_lt, if◌then◌else◌, Option, unwrap_or}
 use Rattle.std.specs.List.{filter_map}
 use Rattle.yds_kernel.specs.Event.{Said}
 use Rattle.yds_trace.specs.Asked.{Task, Asked}
@@ -13,7 +13,7 @@ use Rattle.yds_trace.specs.Tally.{tally_of}
 use Rattle.yds_trace.specs.Parts.{begins_from, of_part, part_until}
 use Rattle.yds_trace_document.specs.declared.fault.DocumentFault.{DocumentFault}
 use Rattle.yds_trace_document.specs.Settled.{Settled}
-use Rattle.yds_trace_document.specs.Limits.{limit_fault, missed_fault}
+use Rattle.yds_trace_document.specs.Limits.{limit_fault, late_fault}
 
 -- # Times
 
@@ -77,5 +77,5 @@ part_of asked past cut until =
 -- A part may be without a job: the last one, where there are others, and each where each processor has its own.
 abbrev pub part_limit_fault : Asked → Bool → Cut → Settled → Option DocumentFault
 part_limit_fault asked strict cut settled =
-    if (asked.everywhere || nat_lt 0 cut.parts) && (length settled.document.jobs == 0) then (if strict then missed_fault settled.judged else None)
+    if (asked.everywhere || nat_lt 0 cut.parts) && (length settled.document.jobs == 0) then late_fault strict settled.judged
     else limit_fault strict settled

@@ -48,11 +48,21 @@ judged_read judged = record {
   job = job_read judged.job.now;
   due = judged.due;
   late = judged.late;
+  unsure = judged.unsure;
   reason = judged.reason;
 }
 
 abbrev pub within_read : WithinKept → Within
-within_read within = record { processor = within.processor; from = within.from; to = within.to; last = within.last }
+within_read within = record {
+  processor = within.processor;
+  from = within.from;
+  to = within.to;
+  unit = within.unit;
+  begin_at_run = within.begin_at_run;
+  cut_losses = within.cut_losses;
+  first = within.first;
+  last = within.last;
+}
 
 abbrev pub judged_list : List JudgedKept → List Judged
 judged_list judged = map judged_read judged
@@ -105,5 +115,6 @@ count_in counts reasons.NotEnded = counts.not_ended
 count_in counts reasons.EventsLost = counts.events_lost
 count_in counts reasons.SwitchMissing = counts.switch_missing
 count_in counts reasons.BeginUnseen = counts.begin_unseen
+count_in counts reasons.DueBefore = counts.due_before
 count_in counts reasons.Moved = counts.moved
 count_in counts reasons.SpeedUnknown = counts.speed_unknown

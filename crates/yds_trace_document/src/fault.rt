@@ -41,6 +41,8 @@ pub enum DocumentFault {
     NoJob(Option<LeftOut>),
     /// Where each processor has documents of its own, none of them has a job.
     NoJobAnywhere,
+    /// Of the judged job at this place it isn't known whether it is late.
+    NotKnown(usize),
     /// The judged job at this place doesn't stand as it is, for another reason than `from` or `to`, or it is late: no job is to
     /// be missed.
     Missed(usize),

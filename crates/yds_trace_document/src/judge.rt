@@ -2,7 +2,7 @@
 ghost use Rattle.std.specs.Prelude.{◌≡◌, ◌≤◌, ◌+◌, IfOk, map, length, nat_le, nat_lt};
 ghost use Rattle.std.specs.List.{All, list_any};
 ghost use Rattle.yds_kernel.specs.declared.limits.TheConstants.{MAX_U64};
-ghost use Rattle.yds_trace.specs.declared.limits.TheConstants.{MAX_TIME, MAX_DEADLINE};
+ghost use Rattle.yds_trace.specs.declared.limits.TheConstants.{MAX_DEADLINE};
 ghost use Rattle.yds_trace.specs.Asked as words;
 ghost use Rattle.yds_trace.specs.Late as spec;
 ghost use Rattle.yds_trace.specs.Document as document;
@@ -16,12 +16,16 @@ use base::Memory;
 use std::alloc::Global;
 use yds_trace::{End, Job, Reason, Stretch, Task};
 
-/// What is asked for beside the tasks, and the trace's last time. Times are nanoseconds.
+/// What is asked for beside the tasks, and the trace's first and last time. Times are nanoseconds.
 #[derive(Clone, Copy, Debug, PartialEq, Eq)]
 pub(crate) struct Within {
     pub(crate) processor: u64,
     pub(crate) from: Option<u64>,
     pub(crate) to: Option<u64>,
+    pub(crate) unit: u64,
+    pub(crate) begin_at_run: bool,
+    pub(crate) cut_losses: bool,
+    pub(crate) first: u64,
     pub(crate) last: u64,
 }
 
@@ -42,7 +46,7 @@ fn shown_until(last: u64, end: End) -> u64
     match end {
         End::Open => last,
         End::Ended(time) => time,
-        End::Unseen { since, .. } | End::Lost(since) => last.min(since),
+        End::Lost(since) => last.min(since),
     }
 }
 
@@ -52,7 +56,7 @@ fn is_open(end: End) -> bool
 {
     match end {
         End::Ended(_) => false,
-        End::Open | End::Unseen { .. } | End::Lost(_) => true,
+        End::Open | End::Lost(_) => true,
     }
 }
 
@@ -96,7 +100,7 @@ fn is_lost(last: u64, end: End) -> bool
 {
     match end {
         End::Lost(since) => since < last,
-        End::Open | End::Ended(_) | End::Unseen { .. } => false,
+        End::Open | End::Ended(_) => false,
     }
 }
 
@@ -128,15 +132,24 @@ fn is_of_unknown_speed(stretch: &Stretch) -> bool
     stretch.from < stretch.to && stretch.khz.is_none()
 }
 
-/// Why a job's runs can't stand.
+/// Whether a job is due before it begins, or less than a unit of time behind.
+fn is_due_before(unit: u64, begin: u64, due: u64) -> bool
+    ensures { result ≡ nat_lt due (begin + unit) }
+{
+    due < begin || due - begin < unit
+}
+
+/// Why a job's runs, or its window, can't stand.
 #[tactic(auto, using(yds_trace::proofs::Shares::list_any_reverse))]
-fn run_reason(processor: u64, job: &Job) -> Option<Reason>
-    ensures { result ≡ kept.run_reason processor (job_read job.now) }
+fn run_reason(within: Within, due: u64, job: &Job) -> Option<Reason>
+    ensures { result ≡ kept.run_reason (within_read within) due (job_read job.now) }
 {
     let stretches = job.stretches.as_slice();
     if !job.begin_known {
         Some(Reason::BeginUnseen)
-    } else if has_moved(processor, stretches) {
+    } else if is_due_before(within.unit, job.begin, due) {
+        Some(Reason::DueBefore)
+    } else if has_moved(within.processor, stretches) {
         Some(Reason::Moved)
     } else if has_unknown_speed(stretches) {
         Some(Reason::SpeedUnknown)
@@ -162,8 +175,8 @@ fn has_unknown_speed(stretches: &[Stretch]) -> bool
 }
 
 /// Why a job can't stand as it is, if it can't.
-fn reason_of(within: Within, late: Option<u64>, job: &Job) -> Option<Reason>
-    ensures { result ≡ kept.reason_at (within_read within) late (job_read job.now) }
+fn reason_of(within: Within, due: u64, late: Option<u64>, job: &Job) -> Option<Reason>
+    ensures { result ≡ kept.reason_at (within_read within) due late (job_read job.now) }
 {
     if !is_after_from(within.from, job.begin) {
         Some(Reason::BeforeFrom)
@@ -174,8 +187,51 @@ fn reason_of(within: Within, late: Option<u64>, job: &Job) -> Option<Reason>
     } else if is_open(job.end) && late.is_none() {
         Some(open_reason(within.to, within.last))
     } else {
-        run_reason(within.processor, job)
+        run_reason(within, due, job)
     }
+}
+
+/// The earliest that a job's deadline may count from.
+fn earliest(within: Within, job: &Job) -> u64
+    ensures { result ≡ kept.earliest_at (within_read within) (job_read job.now) }
+{
+    if job.begin_known || within.begin_at_run {
+        job.due_from
+    } else {
+        within.first.max(within.from.unwrap_or(0))
+    }
+}
+
+/// Whether a job is known to be over by this time.
+fn is_over_by(time: u64, end: End) -> bool
+    ensures { result ≡ spec.over_by time end }
+{
+    match end {
+        End::Ended(end) => end <= time,
+        End::Open | End::Lost(_) => false,
+    }
+}
+
+/// Whether a deadline that counts from this time comes in what is shown, and a job isn't known to be over by then.
+fn may_be_late(last: u64, earliest: u64, deadline: u64, end: End) -> bool
+    ensures { result ≡ kept.may_be_late_by last (earliest + deadline) end }
+{
+    deadline <= last && earliest <= last - deadline && !is_over_by(earliest + deadline, end)
+}
+
+/// Whether it isn't known of a job if it is late.
+fn is_unsure(within: Within, task: &Task, late: Option<u64>, job: &Job) -> bool
+    ensures { result ≡ kept.unsure_at (within_read within) (task_read task.now) late (job_read job.now) }
+{
+    !within.cut_losses
+        && is_after_from(within.from, job.begin)
+        && late.is_none()
+        && may_be_late(
+            last_of(within.to, within.last),
+            earliest(within, job),
+            task.deadline,
+            job.end,
+        )
 }
 
 /// What becomes of a job of a task.
@@ -187,11 +243,11 @@ fn judge<'a>(
     place: u64,
     job: &'a Job,
 ) -> Judged<'a>
-    requires begin { job.now.begin ≤ MAX_TIME }
+    requires plain { kept.IsPlainJob job.now }
     requires deadline { task.now.deadline ≤ MAX_DEADLINE }
     ensures { judged_read result ≡ kept.judged_at (within_read within) number (task_read task.entry.now) before (place, job_read job.entry.now) }
 {
-    let due = job.begin + task.deadline;
+    let due = job.due_from + task.deadline;
     let late = late_by(within.from, last_of(within.to, within.last), due, job.end);
     Judged {
         task: number,
@@ -204,7 +260,8 @@ fn judge<'a>(
         job,
         due,
         late,
-        reason: reason_of(within, late, job),
+        unsure: is_unsure(within, task, late, job),
+        reason: reason_of(within, due, late, job),
     }
 }
 
@@ -226,7 +283,7 @@ pub(crate) fn judge_task<'a>(
     task: &'a Task,
     jobs: &'a [Job],
 ) -> Result<Vec<Judged<'a>>, Memory>
-    requires begins { All (λ job. job.begin ≤ MAX_TIME) jobs.now }
+    requires begins { All kept.IsPlainJob jobs.now }
     requires deadline { task.now.deadline ≤ MAX_DEADLINE }
     ensures { IfOk result (λ judged. judged_list judged.items ≡ kept.judged_task (within_read within) number (task_read task.entry.now) (map job_read jobs.entry.now)) }
 {
@@ -243,7 +300,7 @@ pub(crate) fn judge_jobs<'a>(
     first: u64,
     jobs: &'a [Job],
 ) -> Result<Vec<Judged<'a>>, Memory>
-    requires begins { All (λ job. job.begin ≤ MAX_TIME) jobs.now }
+    requires begins { All kept.IsPlainJob jobs.now }
     requires numbers { first + length jobs.now ≤ MAX_U64 }
     requires deadline { task.now.deadline ≤ MAX_DEADLINE }
     ensures { IfOk result (λ judged. judged_list judged.items ≡ kept.judged_jobs (within_read within) number (task_read task.entry.now) before first (map job_read jobs.entry.now)) }

@@ -16,6 +16,8 @@ pub struct Judged<'a> {
     pub due: u64,
     /// By how much it is known to be late, from its deadline to its end or to where it was last seen open.
     pub late: Option<u64>,
+    /// Whether the lines don't tell if it is late.
+    pub unsure: bool,
     /// Why it isn't written with its window and its runs, if it isn't.
     pub reason: Option<Reason>,
     pub ghost has_begin: { job.now.begin ≤ MAX_TIME },

@@ -17,6 +17,7 @@ struct Counts {
     events_lost: usize,
     switch_missing: usize,
     begin_unseen: usize,
+    due_before: usize,
     moved: usize,
     speed_unknown: usize,
 }
@@ -33,6 +34,7 @@ impl Counts {
             events_lost: count_for(judged, Reason::EventsLost),
             switch_missing: count_for(judged, Reason::SwitchMissing),
             begin_unseen: count_for(judged, Reason::BeginUnseen),
+            due_before: count_for(judged, Reason::DueBefore),
             moved: count_for(judged, Reason::Moved),
             speed_unknown: count_for(judged, Reason::SpeedUnknown),
         }
@@ -49,6 +51,7 @@ impl Counts {
             Reason::EventsLost => self.events_lost,
             Reason::SwitchMissing => self.switch_missing,
             Reason::BeginUnseen => self.begin_unseen,
+            Reason::DueBefore => self.due_before,
             Reason::Moved => self.moved,
             Reason::SpeedUnknown => self.speed_unknown,
         }
@@ -64,6 +67,7 @@ impl Counts {
             && self.events_lost <= count
             && self.switch_missing <= count
             && self.begin_unseen <= count
+            && self.due_before <= count
             && self.moved <= count
             && self.speed_unknown <= count
     }

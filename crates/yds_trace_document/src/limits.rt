@@ -17,8 +17,8 @@ use crate::written::Written;
 use base::limits::{MAX_JOBS, MAX_RUN_SPEED, MAX_SLOTS, MAX_TIME, MAX_WORK};
 use yds_trace::{Asked, Cut, Reason, Stretch};
 
-/// The first cause for which what is settled isn't written as a document, if there is one. With `strict` no job may be missed.
-/// It takes no memory.
+/// The first cause for which what is settled isn't written as a document, if there is one. Of each job it has to be known whether
+/// it is late, and with `strict` none may be missed. It takes no memory.
 pub fn limit_fault(strict: bool, settled: &Settled<'_>) -> Option<DocumentFault>
     ensures { result ≡ spec.limit_fault strict (settled_read settled.now) }
 {
@@ -37,11 +37,7 @@ pub fn limit_fault(strict: bool, settled: &Settled<'_>) -> Option<DocumentFault>
     if settled.jobs.is_empty() {
         return Some(DocumentFault::NoJob(most_left_out(&settled.judged)));
     }
-    if strict {
-        missed_fault(&settled.judged)
-    } else {
-        None
-    }
+    late_fault(strict, &settled.judged)
 }
 
 /// The first cause for which what is settled of a part isn't written behind the parts of this cut. The last one may be without a
@@ -57,11 +53,7 @@ pub fn part_limit_fault(
     if !may_be_empty(asked, cut) || !settled.jobs.is_empty() {
         return limit_fault(strict, settled);
     }
-    if strict {
-        missed_fault(&settled.judged)
-    } else {
-        None
-    }
+    late_fault(strict, &settled.judged)
 }
 
 /// Whether a part behind those of this cut may be without a job.
@@ -246,6 +238,33 @@ fn has_great_speed(units: Units, stretch: &Stretch) -> bool
 {
     is_in_a_run(units, stretch)
         && units.written_speed(stretch.khz.unwrap_or(0)) > u64::from(MAX_RUN_SPEED)
+}
+
+/// The first job of which it isn't known whether it is late; with `strict` also the first that is missed.
+fn late_fault(strict: bool, judged: &[Judged<'_>]) -> Option<DocumentFault>
+    ensures { result ≡ spec.late_fault strict (judged_list judged.now) }
+{
+    if let Some(fault) = unsure_fault(judged) {
+        return Some(fault);
+    }
+    if strict { missed_fault(judged) } else { None }
+}
+
+/// The first job of which it isn't known whether it is late.
+#[tactic(auto, using(crate::proofs::Lists::position_map))]
+fn unsure_fault(judged: &[Judged<'_>]) -> Option<DocumentFault>
+    ensures { result ≡ spec.unsure_fault (judged_list judged.now) }
+{
+    match first_unsure(judged) {
+        Some(place) => Some(DocumentFault::NotKnown(place)),
+        None => None,
+    }
+}
+
+fn first_unsure(judged: &[Judged<'_>]) -> Option<usize>
+    ensures { result ≡ position (λ one. one.unsure) judged.now }
+{
+    judged.iter().position(|one| one.unsure)
 }
 
 /// The first job that is missed.

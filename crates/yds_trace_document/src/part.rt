@@ -87,6 +87,10 @@ fn judge_by_task<'a>(
         processor: asked.processor,
         from: asked.from,
         to: asked.to,
+        unit: asked.unit,
+        begin_at_run: asked.begin_at_run,
+        cut_losses: asked.cut_losses,
+        first: shown.first,
         last: shown.last,
     };
     judge_each(alloc, within, boundary, &asked.tasks, &shown.tasks)

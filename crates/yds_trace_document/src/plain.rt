@@ -2,11 +2,12 @@
 ghost use Rattle.std.specs.Prelude.{◌≤◌, ◌↔◌, IsTrue};
 ghost use Rattle.std.specs.List.{All};
 ghost use Rattle.yds_trace.specs.declared.limits.TheConstants.{MAX_TIME, MAX_DEADLINE};
-ghost use Rattle.yds_trace_document.specs.Kept.{IsPlain, HaveBegins, IsPlainTask, IsPlainShown};
+ghost use Rattle.yds_trace_document.specs.Kept.{IsPlain, IsPlainJob, HaveBegins, IsPlainTask, IsPlainShown};
 
 use yds_trace::{Asked, Ended, Job, MAX_DEADLINE, MAX_TIME, Shown, ShownTask, Task};
 
-/// Whether the units are at least 1, no deadline and no begin is above its limit, and each task has its list of jobs.
+/// Whether the units are at least 1, no deadline, no begin and no time from which a deadline counts is above its limit, and each
+/// task has its list of jobs.
 pub fn is_plain(ended: &Ended) -> bool
     ensures { IsTrue result ↔ IsPlain ended.now }
 {
@@ -30,9 +31,15 @@ fn have_begins(by_task: &[Vec<Job>]) -> bool
 }
 
 fn begin_in_time(jobs: &[Job]) -> bool
-    ensures { IsTrue result ↔ All (λ job. job.begin ≤ MAX_TIME) jobs.now }
+    ensures { IsTrue result ↔ All IsPlainJob jobs.now }
 {
-    jobs.iter().all(|job| job.begin <= MAX_TIME)
+    jobs.iter().all(|job| is_plain_job(job))
+}
+
+fn is_plain_job(job: &Job) -> bool
+    ensures { IsTrue result ↔ IsPlainJob job.now }
+{
+    job.begin <= MAX_TIME && job.due_from <= MAX_TIME
 }
 
 /// The same of what is shown; and the numbers of the jobs fit 64 bits.

@@ -49,6 +49,10 @@ pub fn settle<'a>(alloc: Global, ended: &'a Ended) -> Result<Settled<'a>, Memory
         processor: ended.asked.processor,
         from: ended.asked.from,
         to: ended.asked.to,
+        unit: ended.asked.unit,
+        begin_at_run: ended.asked.begin_at_run,
+        cut_losses: ended.asked.cut_losses,
+        first: ended.first,
         last: ended.last,
     };
     let by_task = judge_tasks(alloc, within, &ended.asked.tasks, &ended.jobs)?;

@@ -35,7 +35,7 @@ pub fn written_end(units: Units, end: End) -> u64
 {
     match end {
         End::Ended(time) => units.written_time(time),
-        End::Open | End::Unseen { .. } | End::Lost(_) => 0,
+        End::Open | End::Lost(_) => 0,
     }
 }
 
@@ -45,7 +45,7 @@ pub fn is_open(end: End) -> bool
 {
     match end {
         End::Ended(_) => false,
-        End::Open | End::Unseen { .. } | End::Lost(_) => true,
+        End::Open | End::Lost(_) => true,
     }
 }
 

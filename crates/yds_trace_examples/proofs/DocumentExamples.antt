@@ -1,5 +1,5 @@
 -- The documents of small traces. A unit of time is 10 nanoseconds, a job is due 100 after its begin, and time 0 is where the first whole job begins.
-use Rattle.base.proofs.Common.{◌≡◌, ℕ, ◌≤◌, All, List, [], ◌∷◌, map, codes, reverse, Option, Some, None, refl, arith, All-cons, All-nil}
+use Rattle.base.proofs.Common.{◌≡◌, ℕ, ◌≤◌, All, List, [], ◌∷◌, map, codes, reverse, Bool, true, false, Option, Some, None, refl, arith, All-cons, All-nil}
 use Rattle.std.specs.Fmt.{digits}
 use Rattle.yds_kernel.specs.Event.{Said}
 use Rattle.yds_trace.specs.declared.reason.Reason.{Reason}
@@ -8,7 +8,7 @@ use Rattle.yds_trace.specs.declared.limits.TheConstants.{MAX_DEADLINE}
 use Rattle.yds_trace.specs.Asked.{Task, Listed, Asked, IsAsked, IsWithin, no_task}
 use Rattle.yds_trace.specs.WrittenTime.{Run}
 use Rattle.yds_trace.specs.Document.{Written, Document, document_of, all_judged, Judged}
-use Rattle.yds_trace_examples.proofs.Lines.{woken, comes, sleeps, preempted, back, other_leaves, marker, lost, task, of_task, asked, up_to, from}
+use Rattle.yds_trace_examples.proofs.Lines.{woken, comes, sleeps, preempted, back, other_leaves, marker, lost, task, of_task, asked, with_period, up_to, from}
 
 abbrev document : Asked → List Said → Document
 document asked lines = document_of asked (reverse lines)
@@ -148,18 +148,54 @@ speed_lost = refl
 cut_off : judgements (up_to 1030) (woken 1000 ∷ comes 0 1020 ∷ sleeps 0 1040 ∷ []) ≡ (None, Some reasons.AfterTo) ∷ []
 cut_off = refl
 
+-- # Due before it begins
+
+-- The second job is due 200 behind the first one's begin and 100 more, and begins less than a unit of time before that. Near miss: just a unit.
+due_before : judgements with_period (woken 1000 ∷ comes 0 1002 ∷ sleeps 0 1010 ∷ woken 1291 ∷ comes 0 1291 ∷ sleeps 0 1300 ∷ []) ≡
+    (None, None) ∷ (None, Some reasons.DueBefore) ∷ []
+due_before = refl
+
+due_a_unit_behind : judgements with_period (woken 1000 ∷ comes 0 1002 ∷ sleeps 0 1010 ∷ woken 1290 ∷ comes 0 1290 ∷ sleeps 0 1300 ∷ []) ≡
+    (None, None) ∷ (None, None) ∷ []
+due_a_unit_behind = refl
+
+-- Where it begins after that, it is late by then.
+begun_too_late : judgements with_period (woken 1000 ∷ comes 0 1002 ∷ sleeps 0 1010 ∷ woken 1301 ∷ comes 0 1302 ∷ sleeps 0 1310 ∷ []) ≡
+    (None, None) ∷ (Some 10, Some reasons.DueBefore) ∷ []
+begun_too_late = refl
+
+-- # Not known to be late
+
+-- of each job, whether it isn't known if it is late
+abbrev unsure : Asked → List Said → List Bool
+unsure asked lines = map (λ judged. judged.unsure) (all_judged asked (reverse lines))
+
+-- It came without a wake-up, so it may have begun when the trace did, at 1000. It ended more than 100 behind that.
+may_be_late : unsure asked (marker 0 1000 ∷ comes 0 1020 ∷ sleeps 0 1110 ∷ []) ≡ true ∷ []
+may_be_late = refl
+
+-- Near misses: it ended by then; losses are cut out; and it began before what is asked for.
+ended_by_then : unsure asked (marker 0 1000 ∷ comes 0 1020 ∷ sleeps 0 1100 ∷ []) ≡ false ∷ []
+ended_by_then = refl
+
+left_out_with_losses : unsure (record asked { cut_losses = true }) (marker 0 1000 ∷ comes 0 1020 ∷ sleeps 0 1110 ∷ []) ≡ false ∷ []
+left_out_with_losses = refl
+
+of_the_time_before : unsure (from 1030) (marker 0 1000 ∷ comes 0 1020 ∷ sleeps 0 1110 ∷ []) ≡ false ∷ []
+of_the_time_before = refl
+
 -- # From the begin until after what is asked for
 
--- A task that hangs: it had its processor when the trace began, at 1000, and leaves it after 1300. It is late.
-hangs : document (up_to 1300) (marker 1 1000 ∷ sleeps 0 1400 ∷ []) ≡ record { jobs = written (codes "t.before") 0 10 1 [] ∷ []; runs = [] }
+-- A task that hangs: it had its processor at that one's first line, at 1000, and leaves it after 1300. It is late.
+hangs : document (up_to 1300) (marker 0 1000 ∷ sleeps 0 1400 ∷ []) ≡ record { jobs = written (codes "t.before") 0 10 1 [] ∷ []; runs = [] }
 unfolding digits
 hangs = refl
 
-so_late : judgements (up_to 1300) (marker 1 1000 ∷ sleeps 0 1400 ∷ []) ≡ (Some 200, Some reasons.BeginUnseen) ∷ []
+so_late : judgements (up_to 1300) (marker 0 1000 ∷ sleeps 0 1400 ∷ []) ≡ (Some 200, Some reasons.BeginUnseen) ∷ []
 so_late = refl
 
 -- near misses: its deadline isn't over; its processor has switched before, so it came there unseen, perhaps after that; another one leaves there
-hangs_not_due : judgements (up_to 1099) (marker 1 1000 ∷ sleeps 0 1400 ∷ []) ≡ (None, Some reasons.AfterTo) ∷ []
+hangs_not_due : judgements (up_to 1099) (marker 0 1000 ∷ sleeps 0 1400 ∷ []) ≡ (None, Some reasons.AfterTo) ∷ []
 hangs_not_due = refl
 
 came_unseen : judgements (up_to 1300) (marker 1 1000 ∷ other_leaves 0 1010 ∷ sleeps 0 1400 ∷ []) ≡ []
@@ -169,11 +205,11 @@ another_hangs : judgements (up_to 1300) (marker 1 1000 ∷ other_leaves 1 1400 �
 another_hangs = refl
 
 -- It had it when a loss ended, at 1100.
-hangs_after_a_loss : judgements (up_to 1300) (marker 1 1000 ∷ lost 1 ∷ marker 1 1100 ∷ sleeps 0 1400 ∷ []) ≡ (Some 100, Some reasons.BeginUnseen) ∷ []
+hangs_after_a_loss : judgements (up_to 1300) (marker 1 1000 ∷ lost 1 ∷ marker 0 1100 ∷ sleeps 0 1400 ∷ []) ≡ (Some 100, Some reasons.BeginUnseen) ∷ []
 hangs_after_a_loss = refl
 
 -- A wake-up while it hangs doesn't hide it.
-woken_while_it_hangs : judgements (up_to 1300) (marker 1 1000 ∷ woken 1250 ∷ sleeps 0 1400 ∷ []) ≡ (Some 200, Some reasons.BeginUnseen) ∷ []
+woken_while_it_hangs : judgements (up_to 1300) (marker 0 1000 ∷ woken 1250 ∷ sleeps 0 1400 ∷ []) ≡ (Some 200, Some reasons.BeginUnseen) ∷ []
 woken_while_it_hangs = refl
 
 -- # What is asked for

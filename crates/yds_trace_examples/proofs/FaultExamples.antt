@@ -5,7 +5,7 @@ use Rattle.yds_kernel.specs.declared.loss.Since.TheVariants as since
 use Rattle.yds_kernel.specs.Event.{Thread, Loss, Speed, Switch, WakeUp, Said, Lost, Nothing}
 use Rattle.yds_trace.specs.declared.fault.Cause.{Cause}
 use Rattle.yds_trace.specs.declared.fault.Cause.TheVariants as causes
-use Rattle.yds_trace.specs.Asked.{Numbered, Asked}
+use Rattle.yds_trace.specs.Asked.{Numbered, Fixed, Asked}
 use Rattle.yds_trace.specs.Faults.{first_fault, trace_fault, touched, touched_fault}
 use Rattle.yds_trace_examples.proofs.Lines.{t, other, idle, line, woken, comes, sleeps, exits, other_leaves, speed, marker, lost, task, asked, at_run, up_to, from}
 
@@ -107,6 +107,16 @@ over_for_good = refl
 never_woken : fault asked (woken 10 ∷ comes 0 12 ∷ sleeps 0 20 ∷ comes 0 30 ∷ sleeps 0 40 ∷ comes 0 50 ∷ []) ≡ Some (6, causes.NotWoken)
 never_woken = refl
 
+-- It comes behind a sleep, and no wake-up of it was ever seen. Near misses: one was; and jobs begin at their first run.
+never_woken_at_all : fault asked (comes 0 12 ∷ sleeps 0 40 ∷ comes 0 50 ∷ []) ≡ Some (3, causes.NotWoken)
+never_woken_at_all = refl
+
+woken_before : fault asked (woken 10 ∷ comes 0 12 ∷ sleeps 0 40 ∷ comes 0 50 ∷ []) ≡ None
+woken_before = refl
+
+at_its_first_run : fault at_run (comes 0 12 ∷ sleeps 0 40 ∷ comes 0 50 ∷ []) ≡ None
+at_its_first_run = refl
+
 -- Near misses: it was so once; a wake-up came in between, while it went to sleep; jobs begin at their first run; it is gone on with.
 not_woken_once : fault asked (woken 10 ∷ comes 0 12 ∷ sleeps 0 20 ∷ comes 0 30 ∷ sleeps 0 40 ∷ woken 45 ∷ comes 0 50 ∷ []) ≡ None
 not_woken_once = refl
@@ -142,6 +152,34 @@ a_loss_cut_out = refl
 -- A buffer that starts after `to` has lost what was before, too.
 a_buffer_that_starts : fault (up_to 30) (woken 10 ∷ marker 1 35 ∷ Lost 1 since.TheBegin ∷ marker 1 40 ∷ []) ≡ Some (4, causes.EventsLost)
 a_buffer_that_starts = refl
+
+-- # Switches that are missing
+
+-- It came at 12, and another thread leaves there at 30.
+a_missing_switch : fault asked (woken 10 ∷ comes 0 12 ∷ other_leaves 0 30 ∷ []) ≡ Some (3, causes.LineMissing)
+a_missing_switch = refl
+
+-- Near misses: the other one leaves another processor; losses may be cut out; and that is after `to`, or not behind `from`.
+none_missing_there : fault asked (woken 10 ∷ comes 0 12 ∷ other_leaves 1 30 ∷ []) ≡ None
+none_missing_there = refl
+
+missing_cut_out : fault (record asked { cut_losses = true }) (woken 10 ∷ comes 0 12 ∷ other_leaves 0 30 ∷ []) ≡ None
+missing_cut_out = refl
+
+missing_after_to : fault (up_to 20) (woken 10 ∷ comes 0 12 ∷ other_leaves 0 30 ∷ []) ≡ None
+missing_after_to = refl
+
+missing_at_from : fault (from 30) (woken 10 ∷ comes 0 12 ∷ other_leaves 0 30 ∷ []) ≡ None
+missing_at_from = refl
+
+-- # Speeds
+
+-- Each processor is said to have 5 kHz throughout. Near miss: that is told.
+another_speed : fault (record asked { start = Fixed 5 }) (woken 10 ∷ speed 0 12 5 ∷ speed 1 20 6 ∷ []) ≡ Some (3, causes.SpeedChanged)
+another_speed = refl
+
+the_same_speed : fault (record asked { start = Fixed 5 }) (woken 10 ∷ speed 0 12 5 ∷ []) ≡ None
+the_same_speed = refl
 
 -- # Places
 
@@ -222,11 +260,3 @@ the_second_unseen = refl
 -- near miss: one after `to` does
 seen_after_to : whole (up_to 30) (marker 0 5 ∷ woken 40 ∷ []) ≡ None
 seen_after_to = refl
-
--- No wake-up of a task is there, and jobs are to begin at wake-ups.
-no_wake_up : whole asked (comes 0 12 ∷ line 0 20 (WakeUp other true) ∷ sleeps 0 40 ∷ []) ≡ Some (3, causes.NoWakeUp)
-no_wake_up = refl
-
--- near miss: they are to begin at their first run
-no_wake_up_needed : whole at_run (comes 0 12 ∷ sleeps 0 40 ∷ []) ≡ None
-no_wake_up_needed = refl

@@ -7,7 +7,7 @@ use Rattle.yds_trace.specs.declared.job.End.TheVariants as ends
 use Rattle.yds_trace.specs.Asked.{Asked}
 use Rattle.yds_trace.specs.Jobs.{Job}
 use Rattle.yds_trace.specs.Document.{jobs_of}
-use Rattle.yds_trace_examples.proofs.Lines.{t, other, idle, line, woken, is_awake, comes, sleeps, exits, preempted, back, other_leaves, speed, marker, lost, asked, with_apart, at_run, up_to, stretch, job, begun_by}
+use Rattle.yds_trace_examples.proofs.Lines.{t, other, idle, line, woken, is_awake, comes, sleeps, exits, preempted, back, other_leaves, speed, marker, lost, asked, with_apart, with_period, at_run, up_to, stretch, job, begun_by}
 
 -- the task's jobs by these lines, which stand in order of time
 abbrev jobs : Asked → List Said → List Job
@@ -48,6 +48,26 @@ a_sleep_between_jobs = refl
 a_sleep_after_an_unknown_begin : jobs with_apart (comes 0 12 ∷ sleeps 0 20 ∷ woken 59 ∷ comes 0 60 ∷ sleeps 0 70 ∷ []) ≡
     begun_by 12 (ends.Ended 20) (stretch 0 12 20 ∷ []) ∷ begun_by 59 (ends.Ended 70) (stretch 0 60 70 ∷ []) ∷ []
 a_sleep_after_an_unknown_begin = refl
+
+-- # Due by a period
+
+-- The second job begins 250 behind the first, and is due as one that begins 200 behind it; so is the third by that.
+fallen_behind : jobs with_period (woken 1000 ∷ comes 0 1002 ∷ sleeps 0 1010 ∷ woken 1250 ∷ comes 0 1252 ∷ sleeps 0 1260 ∷ woken 1410 ∷ comes 0 1412 ∷ sleeps 0 1420 ∷ []) ≡
+    job 1000 (ends.Ended 1010) (stretch 0 1002 1010 ∷ [])
+    ∷ record (job 1250 (ends.Ended 1260) (stretch 0 1252 1260 ∷ [])) { due_from = 1200 }
+    ∷ record (job 1410 (ends.Ended 1420) (stretch 0 1412 1420 ∷ [])) { due_from = 1400 } ∷ []
+fallen_behind = refl
+
+-- Near misses: it begins in time; and the begin of the one before it isn't known.
+in_time_again : jobs with_period (woken 1000 ∷ comes 0 1002 ∷ sleeps 0 1010 ∷ woken 1200 ∷ comes 0 1202 ∷ sleeps 0 1210 ∷ []) ≡
+    job 1000 (ends.Ended 1010) (stretch 0 1002 1010 ∷ []) ∷ job 1200 (ends.Ended 1210) (stretch 0 1202 1210 ∷ []) ∷ []
+in_time_again = refl
+
+behind_an_unknown_begin : jobs with_period (comes 0 1002 ∷ sleeps 0 1010 ∷ woken 1250 ∷ comes 0 1252 ∷ sleeps 0 1260 ∷ []) ≡
+    begun_by 1002 (ends.Ended 1010) (stretch 0 1002 1010 ∷ []) ∷ job 1250 (ends.Ended 1260) (stretch 0 1252 1260 ∷ []) ∷ []
+behind_an_unknown_begin = refl
+
+-- # Wake-ups while a job is open
 
 -- A wake-up while it runs is counted.
 a_second_wake_up : jobs asked (woken 10 ∷ comes 0 12 ∷ woken 20 ∷ sleeps 0 40 ∷ []) ≡
@@ -127,15 +147,19 @@ a_marker = refl
 an_unseen_begin : jobs asked (comes 0 12 ∷ sleeps 0 40 ∷ []) ≡ begun_by 12 (ends.Ended 40) (stretch 0 12 40 ∷ []) ∷ []
 an_unseen_begin = refl
 
--- It leaves as the first on its processor: it was there when the trace began, at 5.
-there_from_the_begin : jobs asked (marker 1 5 ∷ sleeps 0 40 ∷ []) ≡ begun_by 5 (ends.Ended 40) (stretch 0 5 40 ∷ []) ∷ []
+-- It leaves as the first on its processor: it was there at that one's first line, at 5.
+there_from_the_begin : jobs asked (marker 0 5 ∷ sleeps 0 40 ∷ []) ≡ begun_by 5 (ends.Ended 40) (stretch 0 5 40 ∷ []) ∷ []
 there_from_the_begin = refl
 
 -- So it was where a wake-up came meanwhile: that begins no job.
-woken_while_there : jobs asked (marker 1 5 ∷ woken 10 ∷ sleeps 0 40 ∷ []) ≡ begun_by 5 (ends.Ended 40) (stretch 0 5 40 ∷ []) ∷ []
+woken_while_there : jobs asked (marker 0 5 ∷ woken 10 ∷ sleeps 0 40 ∷ []) ≡ begun_by 5 (ends.Ended 40) (stretch 0 5 40 ∷ []) ∷ []
 woken_while_there = refl
 
--- Near misses: it ran elsewhere before, so it came at a time that isn't told; and the processor has switched before.
+-- Near misses: a line of another processor tells nothing of its own; it ran elsewhere before, so it came at a time that isn't told; and the
+-- processor has switched before.
+there_since_its_line : jobs asked (marker 1 5 ∷ sleeps 0 40 ∷ []) ≡ begun_by 40 (ends.Ended 40) (stretch 0 40 40 ∷ []) ∷ []
+there_since_its_line = refl
+
 not_there_since_it_ran : jobs asked (woken 10 ∷ comes 0 12 ∷ sleeps 0 20 ∷ woken 30 ∷ sleeps 3 40 ∷ []) ≡
     job 10 (ends.Ended 20) (stretch 0 12 20 ∷ []) ∷ record (job 30 (ends.Ended 40) []) { switch_missing = true } ∷ []
 not_there_since_it_ran = refl
@@ -150,19 +174,18 @@ begins_at_its_run = refl
 
 -- # Missing switches
 
--- It came at 12, and another thread leaves there at 30: it left unseen, and was open at 12.
-left_unseen : jobs asked (woken 10 ∷ comes 0 12 ∷ other_leaves 0 30 ∷ []) ≡
-    record (job 10 (ends.Unseen 12 true) []) { switch_missing = true } ∷ []
+-- It came at 12, and another thread leaves there at 30: what is missing was lost since 12, and nothing is known of the job after that.
+left_unseen : jobs asked (woken 10 ∷ comes 0 12 ∷ other_leaves 0 30 ∷ []) ≡ job 10 (ends.Lost 12) [] ∷ []
 left_unseen = refl
 
--- It comes again without a wake-up: it hasn't slept, and the job goes on.
+-- It comes again without a wake-up: that may be missing, so another job begins, by then.
 seen_again : jobs asked (woken 10 ∷ comes 0 12 ∷ other_leaves 0 30 ∷ comes 0 50 ∷ sleeps 0 60 ∷ []) ≡
-    record (job 10 (ends.Ended 60) (stretch 0 50 60 ∷ [])) { switch_missing = true } ∷ []
+    job 10 (ends.Lost 12) [] ∷ begun_by 50 (ends.Ended 60) (stretch 0 50 60 ∷ []) ∷ []
 seen_again = refl
 
--- Near miss: with a wake-up between, another job begins.
+-- With a wake-up between, its begin is known.
 woken_again : jobs asked (woken 10 ∷ comes 0 12 ∷ other_leaves 0 30 ∷ woken 40 ∷ comes 0 50 ∷ sleeps 0 60 ∷ []) ≡
-    record (job 10 (ends.Unseen 12 true) []) { switch_missing = true } ∷ job 40 (ends.Ended 60) (stretch 0 50 60 ∷ []) ∷ []
+    job 10 (ends.Lost 12) [] ∷ job 40 (ends.Ended 60) (stretch 0 50 60 ∷ []) ∷ []
 woken_again = refl
 
 -- Its coming is missing: it is woken, and leaves a processor that another thread had. Its end is known.
@@ -170,9 +193,9 @@ came_unseen : jobs asked (woken 10 ∷ line 0 12 (Switch idle states.GoesOn othe
     record (job 10 (ends.Ended 40) []) { switch_missing = true } ∷ []
 came_unseen = refl
 
--- It leaves another processor than that to which it came: both switches between are missing.
+-- It leaves another processor than that to which it came: the switches between were lost since 12. It is found awake at 40.
 left_elsewhere : jobs asked (woken 10 ∷ comes 0 12 ∷ line 1 15 (Switch idle states.GoesOn other) ∷ sleeps 1 40 ∷ []) ≡
-    record (job 10 (ends.Ended 40) []) { switch_missing = true } ∷ []
+    job 10 (ends.Lost 12) [] ∷ record (begun_by 40 (ends.Ended 40) []) { switch_missing = true } ∷ []
 left_elsewhere = refl
 
 -- Near miss: a missing switch of other threads is none of it.
@@ -180,9 +203,9 @@ missing_of_others : jobs asked (woken 10 ∷ comes 0 12 ∷ other_leaves 1 20 �
     job 10 (ends.Ended 40) (stretch 0 12 40 ∷ []) ∷ []
 missing_of_others = refl
 
--- A state that the kernel doesn't have is no end.
+-- A state that the kernel doesn't have is no end: nothing is known of it after that.
 a_strange_state : jobs asked (woken 10 ∷ comes 0 12 ∷ line 0 40 (Switch t states.Unknown idle) ∷ []) ≡
-    record (job 10 (ends.Unseen 40 true) (stretch 0 12 40 ∷ [])) { switch_missing = true } ∷ []
+    job 10 (ends.Lost 40) (stretch 0 12 40 ∷ []) ∷ []
 a_strange_state = refl
 
 -- # Lost events
@@ -237,18 +260,18 @@ a_loss_of_later : jobs (up_to 30) (woken 10 ∷ comes 0 12 ∷ marker 1 35 ∷ s
     job 10 ends.Open (stretch 0 12 30 ∷ []) ∷ []
 a_loss_of_later = refl
 
--- A thread that had its processor when the trace began, at 5, and leaves it after 30: it was there until then, and is there then.
-there_until_after : jobs (up_to 30) (marker 1 5 ∷ sleeps 0 40 ∷ []) ≡ begun_by 5 ends.Open (stretch 0 30 30 ∷ stretch 0 5 30 ∷ []) ∷ []
+-- A thread that had its processor at that one's first line, at 5, and leaves it after 30: it was there until then, and is there then.
+there_until_after : jobs (up_to 30) (marker 0 5 ∷ sleeps 0 40 ∷ []) ≡ begun_by 5 ends.Open (stretch 0 30 30 ∷ stretch 0 5 30 ∷ []) ∷ []
 there_until_after = refl
 
 -- The same where jobs begin at their first run.
-there_at_run : jobs (record at_run { to = Some 30 }) (marker 1 5 ∷ sleeps 0 40 ∷ []) ≡ begun_by 5 ends.Open (stretch 0 30 30 ∷ stretch 0 5 30 ∷ []) ∷ []
+there_at_run : jobs (record at_run { to = Some 30 }) (marker 0 5 ∷ sleeps 0 40 ∷ []) ≡ begun_by 5 ends.Open (stretch 0 30 30 ∷ stretch 0 5 30 ∷ []) ∷ []
 there_at_run = refl
 
 -- Near misses: the second switch of a processor after it is none of it, and neither is what is told after a first one.
 second_after_to : jobs (up_to 30) (marker 1 5 ∷ other_leaves 0 40 ∷ comes 0 50 ∷ sleeps 0 60 ∷ []) ≡ []
 second_after_to = refl
 
-first_and_more_after_to : jobs (up_to 30) (marker 1 5 ∷ sleeps 0 40 ∷ woken 45 ∷ comes 0 50 ∷ sleeps 0 60 ∷ []) ≡
+first_and_more_after_to : jobs (up_to 30) (marker 0 5 ∷ sleeps 0 40 ∷ woken 45 ∷ comes 0 50 ∷ sleeps 0 60 ∷ []) ≡
     begun_by 5 ends.Open (stretch 0 30 30 ∷ stretch 0 5 30 ∷ []) ∷ []
 first_and_more_after_to = refl

@@ -37,10 +37,7 @@ ended_at_from = refl
 lost_before_from : late_by (Some 120) 200 110 (ends.Lost 115) ≡ None
 lost_before_from = refl
 
--- it was still open at 120, after which a switch is missing, or events are lost: it is late by 10 at least
-late_when_last_seen : late_by None 200 110 (ends.Unseen 120 true) ≡ Some 10
-late_when_last_seen = refl
-
+-- it was still open at 120, after which events were lost: it is late by 10 at least
 late_before_a_loss : late_by None 200 110 (ends.Lost 120) ≡ Some 10
 late_before_a_loss = refl
 

@@ -8,7 +8,7 @@ use Rattle.yds_trace_document.specs.declared.fault.DocumentFault.{DocumentFault}
 use Rattle.yds_trace_document.specs.declared.fault.DocumentFault.TheVariants as faults
 use Rattle.yds_trace_document.specs.Settled.{settled_of}
 use Rattle.yds_trace_document.specs.Limits.{limit_fault}
-use Rattle.yds_trace_examples.proofs.Lines.{woken, comes, sleeps, asked, at_run}
+use Rattle.yds_trace_examples.proofs.Lines.{woken, comes, sleeps, marker, task, of_task, asked, at_run}
 
 abbrev fault : Asked → List Said → Option DocumentFault
 fault asked lines = limit_fault false (settled_of asked (reverse lines))
@@ -45,17 +45,29 @@ late_at_unknown_speed : fault without_start (woken 1000 ∷ comes 0 1020 ∷ sle
 unfolding digits
 late_at_unknown_speed = refl
 
+-- # Not known to be late
+
+-- The first job may have begun when the trace did, at 1000. It ended at 1110.
+not_known : fault asked (marker 0 1000 ∷ comes 0 1020 ∷ sleeps 0 1110 ∷ woken 1200 ∷ comes 0 1210 ∷ sleeps 0 1230 ∷ []) ≡ Some (faults.NotKnown 0)
+unfolding digits
+not_known = refl
+
+-- Near miss: it ended 100 behind that.
+in_time_in_any_case : fault asked (marker 0 1000 ∷ comes 0 1020 ∷ sleeps 0 1100 ∷ woken 1200 ∷ comes 0 1210 ∷ sleeps 0 1230 ∷ []) ≡ None
+unfolding digits
+in_time_in_any_case = refl
+
 -- # Too much work
 
--- a job that runs for 2 microseconds at 1,000,000 units of speed
+-- a job that runs for 2 microseconds, until its deadline, at 1,000,000 units of speed
 abbrev long_job : List Said
 long_job = woken 1000 ∷ comes 0 1000 ∷ sleeps 0 3000 ∷ []
 
-too_much_work : fault (record asked { unit = 1000; start = Same 1000000 }) long_job ≡ Some (faults.WorkTooGreat 0 2000000 2)
+too_much_work : fault (record (of_task (record task { deadline = 2000 })) { unit = 1000; start = Same 1000000 }) long_job ≡ Some (faults.WorkTooGreat 0 2000000 2)
 unfolding digits
 too_much_work = refl
 
 -- Near miss: in the unit that is told the work is the greatest that a job may have.
-in_that_unit : fault (record asked { unit = 2000; start = Same 1000000 }) long_job ≡ None
+in_that_unit : fault (record (of_task (record task { deadline = 2000 })) { unit = 2000; start = Same 1000000 }) long_job ≡ None
 unfolding digits
 in_that_unit = refl

@@ -77,7 +77,7 @@ lost processor = Lost processor since.ItsLastLine
 
 -- The jobs of `t` on processor 0, each due 100 after its begin. A unit of time is 10, and one of speed 1.
 abbrev pub task : Task
-task = record { label = codes "t"; thread = Named (codes "t"); deadline = 100; apart = 0 }
+task = record { label = codes "t"; thread = Named (codes "t"); deadline = 100; apart = 0; period = 0 }
 
 abbrev pub of_task : Task → Asked
 of_task task = record { tasks = task ∷ []; processor = 0; unit = 10; khz = 1; start = Same 5; from = None; to = None; begin_at_run = false; cut_losses = false; in_parts = false; everywhere = false; moved_parts = false; others = None }
@@ -88,6 +88,10 @@ asked = of_task task
 -- with wake-ups less than 50 after a job's begin going on with it
 abbrev pub with_apart : Asked
 with_apart = of_task (record task { apart = 50 })
+
+-- with a job due no later than 200 behind the one before it
+abbrev pub with_period : Asked
+with_period = of_task (record task { period = 200 })
 
 abbrev pub at_run : Asked
 at_run = record asked { begin_at_run = true }
@@ -118,7 +122,7 @@ stretch processor from to = record { processor = processor; from = from; to = to
 
 abbrev pub job : ℕ → End → List Stretch → Job
 job begin end stretches =
-    record { begin = begin; begin_known = true; end = end; stretches = stretches; wake_ups = 0; switch_missing = false; slept = None; exited = false; shared = false }
+    record { begin = begin; begin_known = true; due_from = begin; end = end; stretches = stretches; wake_ups = 0; switch_missing = false; slept = None; exited = false; shared = false }
 
 -- what the job ran on one of its processors
 abbrev pub share : ℕ → End → List Stretch → Job

@@ -40,7 +40,7 @@ of_one_processor = refl
 -- # Two tasks
 
 abbrev other_task : Task
-other_task = record { label = codes "other"; thread = Named (codes "other"); deadline = 100; apart = 0 }
+other_task = record { label = codes "other"; thread = Named (codes "other"); deadline = 100; apart = 0; period = 0 }
 
 -- wake-ups of `t` less than so long after its job's begin go on with that job
 abbrev both_tasks : ℕ → Asked

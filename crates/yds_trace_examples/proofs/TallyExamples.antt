@@ -1,19 +1,20 @@
 -- What small traces lack.
-use Rattle.base.proofs.Common.{◌≡◌, ℕ, List, [], ◌∷◌, codes, reverse, true, refl}
+use Rattle.base.proofs.Common.{◌≡◌, ℕ, List, [], ◌∷◌, codes, reverse, true, false, refl}
 use Rattle.std.specs.Fmt.{digits}
 use Rattle.yds_kernel.specs.declared.state.State.TheVariants as states
-use Rattle.yds_kernel.specs.Event.{Thread, Loss, Switch, Said}
+use Rattle.yds_kernel.specs.Event.{Thread, Loss, Switch, WakeUp, Said}
 use Rattle.yds_trace.specs.declared.tally.Pause.{Pause}
+use Rattle.yds_trace.specs.declared.tally.Silence.{Silence}
 use Rattle.yds_trace.specs.declared.tally.Tally.{Tally}
 use Rattle.yds_trace.specs.Asked.{Asked}
-use Rattle.yds_trace.specs.Tally.{losses, missing_switches, markers, longest_pause, tally_of}
-use Rattle.yds_trace_text.specs.Text.{comment, unit_comment, tally_comments, text_of}
-use Rattle.yds_trace_examples.proofs.Lines.{t, other, idle, line, woken, comes, sleeps, other_comes, other_leaves, speed, marker, lost, asked, up_to, from}
+use Rattle.yds_trace.specs.Tally.{losses, missing_switches, markers, longest_pause, no_silence, silence, tally_of}
+use Rattle.yds_trace_text.specs.Text.{comment, unit_comment, period_comment, silence_comment, tally_comments, text_of}
+use Rattle.yds_trace_examples.proofs.Lines.{t, other, idle, line, woken, comes, sleeps, preempted, other_comes, other_leaves, speed, marker, lost, asked, up_to, from}
 
 -- # Places where events were lost
 
 abbrev places : Asked → List Said → ℕ
-places asked lines = losses asked.from asked.to (reverse lines)
+places asked lines = losses asked (reverse lines)
 
 -- Two lines say so behind the same line: that is one place.
 one_place : places asked (woken 10 ∷ comes 0 12 ∷ lost 0 ∷ lost 1 ∷ sleeps 0 40 ∷ []) ≡ 1
@@ -95,32 +96,58 @@ a_pause_over_from = refl
 a_pause_over_to : pause (up_to 42) (woken 10 ∷ comes 0 12 ∷ sleeps 0 45 ∷ []) ≡ record { since = 10; lasted = 2 }
 a_pause_over_to = refl
 
+-- # Silence
+
+abbrev silent : Asked → List Said → Silence
+silent asked lines = silence asked (reverse lines)
+
+-- Processor 0 was left by `t` to another thread, and 1 has no switch: of both the one that tells nothing longer.
+the_longest : silent asked (woken 10 ∷ marker 1 11 ∷ comes 0 12 ∷ preempted 0 30 ∷ line 3 90 (WakeUp other true) ∷ []) ≡ record { processor = 1; since = 11; lasted = 79 }
+the_longest = refl
+
+-- Near miss: one that was left idle isn't silent.
+left_idle : silent asked (woken 10 ∷ comes 0 12 ∷ sleeps 0 30 ∷ line 3 90 (WakeUp other true) ∷ []) ≡ no_silence
+left_idle = refl
+
+-- It is told up to where the part was written, and without parts to the end.
+abbrev a_long_silence : Silence
+a_long_silence = record { processor = 2; since = 6; lasted = 1000000001 }
+
+silence_in_parts : silence_comment true a_long_silence ≡ codes "# up to here, no line of CPU 2 for 1.000000001 s, from 0.000000006 s on: what it did then isn't known\n"
+unfolding digits comment
+silence_in_parts = refl
+
+silence_to_the_end : silence_comment false a_long_silence ≡ codes "# no line of CPU 2 for 1.000000001 s, from 0.000000006 s on to the end: what it did then isn't known\n"
+unfolding digits comment
+silence_to_the_end = refl
+
 -- # What is told of them
 
 abbrev lines : List Said
 lines = other_comes 0 2 ∷ line 0 5 (Switch third states.Sleeps idle) ∷ marker 1 6 ∷ lost 3 ∷ woken 1000 ∷ speed 0 1010 5 ∷ comes 0 1020 ∷ sleeps 0 1040 ∷ []
 
-abbrev all_four : Tally
-all_four = tally_of asked (reverse lines)
+abbrev all_five : Tally
+all_five = tally_of asked (reverse lines)
 
-lacks_all_four : all_four ≡ record { losses = 1; missing = 1; markers = 1; pause = record { since = 6; lasted = 994 } }
-lacks_all_four = refl
+lacks_all_five : all_five
+    ≡ record { losses = 1; missing = 1; markers = 1; pause = record { since = 6; lasted = 994 }; silence = record { processor = 1; since = 6; lasted = 1034 } }
+lacks_all_five = refl
 
--- They stand behind all other comments. No one has to be told of so short a pause.
+-- They stand behind all other comments. No one has to be told of so short a pause, or of so short a silence.
 told_in_one : text_of (record asked { cut_losses = true }) (reverse lines) ≡ codes "# CPU 0 of a kernel trace; time 0 is 0.000001000 s\n# time unit 0 us, speed unit 1 kHz, work unit 0 cycles\njob t.0 0 10 10\nticks 1\nrun t.0 2 4 5\n# places where events were lost: 1\n# switches of other threads that are missing: 1\n# lines that programs wrote into the trace: 1\n# 1 job written, none left out\n"
-unfolding digits comment unit_comment
+unfolding digits comment unit_comment period_comment
 told_in_one = refl
 
 -- In parts more may follow.
-told_in_parts : tally_comments true (record all_four { pause = record { since = 100001000000; lasted = 60001000000 } }) ≡ codes "# places where events were lost, up to here: 1\n# switches of other threads that are missing, up to here: 1\n# lines that programs wrote into the trace, up to here: 1\n# up to here, no line for 60.001000000 s, from 100.001000000 s on: did the clock jump?\n"
+told_in_parts : tally_comments true (record all_five { pause = record { since = 100001000000; lasted = 60001000000 } }) ≡ codes "# places where events were lost, up to here: 1\n# switches of other threads that are missing, up to here: 1\n# lines that programs wrote into the trace, up to here: 1\n# up to here, no line for 60.001000000 s, from 100.001000000 s on: did the clock jump?\n"
 unfolding digits comment
 told_in_parts = refl
 
 -- near miss: a second is not long, and a nanosecond more is
-a_second : tally_comments true (record { losses = 0; missing = 0; markers = 0; pause = record { since = 6; lasted = 1000000000 } }) ≡ []
+a_second : tally_comments true (record { losses = 0; missing = 0; markers = 0; pause = record { since = 6; lasted = 1000000000 }; silence = no_silence }) ≡ []
 a_second = refl
 
-more_than_a_second : tally_comments true (record { losses = 0; missing = 0; markers = 0; pause = record { since = 6; lasted = 1000000001 } })
+more_than_a_second : tally_comments true (record { losses = 0; missing = 0; markers = 0; pause = record { since = 6; lasted = 1000000001 }; silence = no_silence })
     ≡ codes "# up to here, no line for 1.000000001 s, from 0.000000006 s on: did the clock jump?\n"
 unfolding digits comment
 more_than_a_second = refl

@@ -5,10 +5,12 @@ use Rattle.yds_kernel.specs.declared.fault.Reason.TheVariants as forms
 use Rattle.yds_kernel.specs.Event.{Said}
 use Rattle.yds_trace.specs.declared.cut.Cut.{Cut}
 use Rattle.yds_trace.specs.declared.fault.Cause.TheVariants as causes
+use Rattle.yds_trace.specs.declared.reason.Reason.TheVariants as reasons
 use Rattle.yds_trace.specs.Asked.{Asked}
 use Rattle.yds_trace.specs.Parts.{no_cut, cut_at, part_fault}
 use Rattle.yds_trace_document.specs.declared.fault.DocumentFault.TheVariants as faults
-use Rattle.yds_trace_text.specs.Text.{comment, unit_comment}
+use Rattle.yds_trace_text.specs.Limit.{Beyond, NotKnown}
+use Rattle.yds_trace_text.specs.Text.{comment, unit_comment, period_comment}
 use Rattle.yds_trace_text.specs.PartText.{part_text}
 use Rattle.yds_trace_parts.specs.Told.{InForm, AtLine, OfDocument, Told, told_of}
 use Rattle.yds_trace_examples.proofs.Lines.{woken, is_awake, comes, sleeps, preempted, back, marker, lost, asked, of_each, in_shares, with_others}
@@ -35,7 +37,7 @@ first_part : part_text asked (reverse two_jobs) no_cut (Some 1200) ≡ lines (co
     ∷ codes "ticks 1"
     ∷ codes "run t.0 2 4 5"
     ∷ codes "# 1 job written, none left out" ∷ [])
-unfolding digits comment unit_comment
+unfolding digits comment unit_comment period_comment
 first_part = refl
 
 last_part : part_text asked (reverse two_jobs) cut None ≡ lines (codes "# part 2: jobs 2 to 2, from 20 to 30, shift 20, the last"
@@ -45,7 +47,7 @@ last_part : part_text asked (reverse two_jobs) cut None ≡ lines (codes "# part
     ∷ codes "ticks 1"
     ∷ codes "run t.1 1 3 5"
     ∷ codes "# 1 job written, none left out" ∷ [])
-unfolding digits comment unit_comment
+unfolding digits comment unit_comment period_comment
 last_part = refl
 
 -- Where each processor has documents of its own, no job of these lines is one of processor 1: its boundary moves, and nothing is written.
@@ -62,10 +64,11 @@ whole_text = lines (codes "# part 1: jobs 1 to 2, from 0 to 30, shift 0, the las
     ∷ codes "ticks 1"
     ∷ codes "run t.0 2 4 5"
     ∷ codes "run t.1 21 23 5"
+    ∷ codes "# t: 2 begins, 0.000200 ms apart in the mean, a deadline of 0.000100 ms: a period would tell frames that fall behind"
     ∷ codes "# 2 jobs written, none left out" ∷ [])
 
 told_as_one : told_of asked false (record { said = two_jobs; fault = None }) ≡ record { text = whole_text; halt = None }
-unfolding digits comment unit_comment
+unfolding digits comment unit_comment period_comment
 told_as_one = refl
 
 -- # Halts
@@ -83,9 +86,9 @@ at_a_line : told_of asked false (record { said = woken 1000 ∷ woken 900 ∷ wo
     ≡ record { text = []; halt = Some (AtLine 2 causes.TimeGoesBack) }
 at_a_line = refl
 
--- Without a wake-up the trace as a whole is refused, at its last line.
-without_a_wake_up : told asked false (comes 0 1020 ∷ sleeps 0 1040 ∷ []) ≡ record { text = []; halt = Some (AtLine 2 causes.NoWakeUp) }
-without_a_wake_up = refl
+-- Where no line names the task, the trace as a whole is refused, at its last line.
+unseen_task : told asked false (marker 0 1000 ∷ marker 0 1010 ∷ []) ≡ record { text = []; halt = Some (AtLine 2 (causes.Unseen 0)) }
+unseen_task = refl
 
 no_line_at_all : told asked false [] ≡ record { text = []; halt = Some (AtLine 0 causes.NoLine) }
 no_line_at_all = refl
@@ -94,7 +97,7 @@ no_line_at_all = refl
 abbrev one_moved : List Said
 one_moved = woken 1000 ∷ comes 1 1020 ∷ sleeps 1 1030 ∷ woken 1200 ∷ comes 0 1210 ∷ sleeps 0 1230 ∷ []
 
-one_missed : told asked true one_moved ≡ record { text = []; halt = Some (OfDocument None 1 (faults.Missed 0)) }
+one_missed : told asked true one_moved ≡ record { text = []; halt = Some (OfDocument None 1 (Beyond (faults.Missed 0))) }
 unfolding digits
 one_missed = refl
 
@@ -103,8 +106,14 @@ abbrev one_halt : Told → Option ℕ
 one_halt told = elim told.halt [ None ↦ None | Some halt ↦ Some 1 ]
 
 one_left_out : one_halt (told asked false one_moved) ≡ None
-unfolding digits comment unit_comment
+unfolding digits comment unit_comment period_comment
 one_left_out = refl
+
+-- The first job came without a wake-up, and ended more than 100 behind the trace's begin: its name and its reason are told.
+not_known : told asked false (marker 0 1000 ∷ comes 0 1020 ∷ sleeps 0 1110 ∷ woken 1200 ∷ comes 0 1210 ∷ sleeps 0 1230 ∷ [])
+    ≡ record { text = []; halt = Some (OfDocument None 1 (NotKnown 0 (codes "t.before") (Some reasons.BeginUnseen))) }
+unfolding digits
+not_known = refl
 
 -- # Each processor
 
@@ -136,25 +145,25 @@ texts_of_each = lines (codes "# part 1: jobs 1 to 1, from 20 to 30, shift 20, cp
     ∷ codes "# 0 jobs written, none left out" ∷ [])
 
 told_of_each : told (of_each 0) false one_moved ≡ record { text = texts_of_each; halt = None }
-unfolding digits comment unit_comment
+unfolding digits comment unit_comment period_comment
 told_of_each = refl
 
 -- Near miss: the only job began before what is asked for. A part without a job is no fault, but no document at all would have one.
-none_of_each : told (record (of_each 0) { from = Some 1100 }) false (woken 1000 ∷ comes 0 1020 ∷ sleeps 0 1040 ∷ []) ≡ record { text = []; halt = Some (OfDocument None 1 faults.NoJobAnywhere) }
-unfolding digits comment unit_comment
+none_of_each : told (record (of_each 0) { from = Some 1100 }) false (woken 1000 ∷ comes 0 1020 ∷ sleeps 0 1040 ∷ []) ≡ record { text = []; halt = Some (OfDocument None 1 (Beyond faults.NoJobAnywhere)) }
+unfolding digits comment unit_comment period_comment
 none_of_each = refl
 
 -- A limit that a document of one of them passes is told with its processor: with `strict` the job that ran on 0 and on 1 may not be missed.
 abbrev ran_on_both : List Said
 ran_on_both = woken 1000 ∷ comes 0 1020 ∷ preempted 0 1040 ∷ comes 1 1050 ∷ sleeps 1 1080 ∷ []
 
-missed_on_the_first : told (of_each 0) true ran_on_both ≡ record { text = []; halt = Some (OfDocument (Some 0) 1 (faults.Missed 0)) }
+missed_on_the_first : told (of_each 0) true ran_on_both ≡ record { text = []; halt = Some (OfDocument (Some 0) 1 (Beyond (faults.Missed 0))) }
 unfolding digits
 missed_on_the_first = refl
 
 -- near miss: where each has what it ran there, none is missed
 none_missed : one_halt (told (in_shares 0) true ran_on_both) ≡ None
-unfolding digits comment unit_comment
+unfolding digits comment unit_comment period_comment
 none_missed = refl
 
 -- # What moved
@@ -169,7 +178,7 @@ moved_and_late : part_text (in_shares 0) (reverse (woken 1000 ∷ comes 0 1020 �
     ∷ codes "run t.0@0 2 4 5"
     ∷ codes "# late on another processor: t.0@0, 0.000030 ms after its deadline"
     ∷ codes "# 1 job written, none left out" ∷ [])
-unfolding digits comment unit_comment
+unfolding digits comment unit_comment period_comment
 moved_and_late = refl
 
 -- near miss: in time, its end is told
@@ -182,7 +191,7 @@ moved_in_time : part_text (in_shares 0) (reverse ran_on_both) no_cut None ≡ li
     ∷ codes "run t.0@0 2 4 5"
     ∷ codes "# ends: t.0@0 8"
     ∷ codes "# 1 job written, none left out" ∷ [])
-unfolding digits comment unit_comment
+unfolding digits comment unit_comment period_comment
 moved_in_time = refl
 
 -- # Who was in the way
@@ -198,7 +207,7 @@ in_the_way : part_text (with_others 0) (reverse (woken 1000 ∷ comes 0 1010 ∷
     ∷ codes "run t.0 4 5 5"
     ∷ codes "# other other-9 2 4"
     ∷ codes "# 1 job written, none left out" ∷ [])
-unfolding digits comment unit_comment
+unfolding digits comment unit_comment period_comment
 in_the_way = refl
 
 -- # Behind a written part

@@ -6,7 +6,7 @@ use Rattle.yds_trace.specs.declared.job.Stretch.{Stretch}
 use Rattle.yds_trace.specs.declared.reason.Reason.{Reason}
 use Rattle.yds_trace.specs.declared.reason.Reason.TheVariants as reasons
 use Rattle.yds_trace.specs.Asked.{Task, Asked, task_at, is_after_from}
-use Rattle.yds_trace.specs.Late.{last_asked, is_open, lateness}
+use Rattle.yds_trace.specs.Late.{last_asked, due, is_open, lateness}
 use Rattle.yds_trace.specs.Jobs.{Job}
 use Rattle.yds_trace.specs.WrittenTime.{Units, Run, run_of}
 use Rattle.yds_trace.specs.Document.{is_lost, reaches_to, is_elsewhere, is_of_unknown_speed, reason_of, Judged, judged, all_judged, stands, units_of, Written, with_runs, without_runs, written_runs, written_of, Placed, placed_runs, all_runs}
@@ -27,33 +27,35 @@ pub record IsWhole (asked : Asked) (one : Judged) : Type 0 where
   pub none_elsewhere : stands one ≡ true → list_any (is_elsewhere asked.processor) one.job.stretches ≡ false
   pub none_unknown : stands one ≡ true → list_any is_of_unknown_speed one.job.stretches ≡ false
 
-none_left : (first second third fourth fifth moved unknown : Bool) (one two three four five six seven : Reason)
+none_left : (first second third fourth fifth sixth moved unknown : Bool) (one two three four five six seven eight : Reason)
     → is_none (if first then Some one else (if second then Some two else (if third then Some three else (if fourth then Some four
-    else (if fifth then Some five else (if moved then Some six else (if unknown then Some seven else None))))))) ≡ true → (fourth ≡ false) × (moved ≡ false) × (unknown ≡ false)
-none_left true second third fourth fifth moved unknown one two three four five six seven none = cc
-none_left false true third fourth fifth moved unknown one two three four five six seven none = cc
-none_left false false true fourth fifth moved unknown one two three four five six seven none = cc
-none_left false false false true fifth moved unknown one two three four five six seven none = cc
-none_left false false false false true moved unknown one two three four five six seven none = cc
-none_left false false false false false true unknown one two three four five six seven none = cc
-none_left false false false false false false true one two three four five six seven none = cc
-none_left false false false false false false false one two three four five six seven none = (refl, refl, refl)
+    else (if fifth then Some five else (if sixth then Some six else (if moved then Some seven else (if unknown then Some eight else None)))))))) ≡ true
+    → (fourth ≡ false) × (sixth ≡ false) × (moved ≡ false) × (unknown ≡ false)
+none_left true second third fourth fifth sixth moved unknown one two three four five six seven eight none = cc
+none_left false true third fourth fifth sixth moved unknown one two three four five six seven eight none = cc
+none_left false false true fourth fifth sixth moved unknown one two three four five six seven eight none = cc
+none_left false false false true fifth sixth moved unknown one two three four five six seven eight none = cc
+none_left false false false false true sixth moved unknown one two three four five six seven eight none = cc
+none_left false false false false false true moved unknown one two three four five six seven eight none = cc
+none_left false false false false false false true unknown one two three four five six seven eight none = cc
+none_left false false false false false false false true one two three four five six seven eight none = cc
+none_left false false false false false false false false one two three four five six seven eight none = (refl, refl, refl, refl)
 
--- it has ended or is known to be late, and its runs are known
+-- it has ended or is known to be late, isn't due before a unit of time behind its begin, and its runs are known
 pub whole_job : (asked : Asked) (past : List Said) (task : Task) (job : Job) → is_none (reason_of asked past task job) ≡ true →
-    ((is_open job.end && is_none (lateness asked task (last_asked asked past) job)) ≡ false)
+    ((is_open job.end && is_none (lateness asked task (last_asked asked past) job)) ≡ false) × (nat_lt (due task job) (job.begin + asked.unit) ≡ false)
     × (list_any (is_elsewhere asked.processor) job.stretches ≡ false) × (list_any is_of_unknown_speed job.stretches ≡ false)
 whole_job asked past task job whole =
     none_left (not (is_after_from asked.from job.begin)) (is_lost (last_asked asked past) job.end) job.switch_missing
-    (is_open job.end && is_none (lateness asked task (last_asked asked past) job)) (not job.begin_known)
+    (is_open job.end && is_none (lateness asked task (last_asked asked past) job)) (not job.begin_known) (nat_lt (due task job) (job.begin + asked.unit))
     (list_any (is_elsewhere asked.processor) job.stretches) (list_any is_of_unknown_speed job.stretches)
-    reasons.BeforeFrom reasons.EventsLost reasons.SwitchMissing (if reaches_to asked past then reasons.AfterTo else reasons.NotEnded) reasons.BeginUnseen reasons.Moved
+    reasons.BeforeFrom reasons.EventsLost reasons.SwitchMissing (if reaches_to asked past then reasons.AfterTo else reasons.NotEnded) reasons.BeginUnseen reasons.DueBefore reasons.Moved
     reasons.SpeedUnknown whole
 
 whole_is : (asked : Asked) (past : List Said) (number : ℕ) (before : Bool) (numbered : ℕ × Job) → IsWhole asked (judged asked past number before numbered)
 whole_is asked past number before numbered = record {
-  none_elsewhere = λ whole. (whole_job asked past (task_at asked number) numbered.1 whole).1;
-  none_unknown = λ whole. (whole_job asked past (task_at asked number) numbered.1 whole).2;
+  none_elsewhere = λ whole. (whole_job asked past (task_at asked number) numbered.1 whole).2;
+  none_unknown = λ whole. (whole_job asked past (task_at asked number) numbered.1 whole).3;
 }
 
 pub same_processor : (b : Bool) → not b ≡ false → b ≡ true

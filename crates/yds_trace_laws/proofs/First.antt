@@ -1,12 +1,13 @@
 -- No job that stands as it is begins before the trace's first line.
-use Rattle.yds_model.proofs.Common.{◌≡◌, ◌∙◌, ℕ, suc, ◌+◌, ◌-◌, ◌<◌, ◌≤◌, ◌==◌, ◌&&◌, ◌||◌, ◌⊎◌, inl, inr, List, [], ◌∷◌, min, length, get_or, Bool, true, false, nat_lt, nat_le, if◌then◌else◌, Option, Some, None, is_none, refl, sym, ap, subst, arith, All, All-from_recursion, and_parts, leb-true, le-leb, cases_lt, cases_Bool, true≢false}
+use Rattle.yds_model.proofs.Common.{◌≡◌, ◌∙◌, ℕ, suc, ◌+◌, ◌-◌, ◌<◌, ◌≤◌, ◌==◌, ◌&&◌, ◌||◌, ◌⊎◌, inl, inr, List, [], ◌∷◌, min, get_or, Bool, true, false, nat_lt, nat_le, if◌then◌else◌, Option, Some, None, is_none, refl, sym, ap, subst, arith, All, All-from_recursion, and_parts, leb-true, le-leb, cases_lt, cases_Bool, true≢false}
 use Rattle.std.specs.Bool.{⊤}
 use Rattle.yds_kernel.specs.Event.{Happening, Switch, WakeUp, Speed, Loss, Marker, Other, Event, Said, Stamped, Lost, Nothing}
+use Rattle.std.proofs.lemmas.Bool.{ltb-false}
 use Rattle.yds_trace.specs.declared.job.End.{End}
 use Rattle.yds_trace.specs.declared.job.End.TheVariants as ends
-use Rattle.yds_trace.specs.Asked.{no_task, Asked, IsAsked, task_at, is_behind_from}
+use Rattle.yds_trace.specs.Asked.{Asked, IsAsked, task_at, is_behind_from}
 use Rattle.yds_trace.specs.Past.{first_time, last_time, is_loss, counts, up_to}
-use Rattle.yds_trace.specs.Jobs.{Job, counted as counted_job, open_until, lost_end, lost_before}
+use Rattle.yds_trace.specs.Jobs.{Job, counted as counted_job, lost_end}
 use Rattle.yds_trace.specs.Late.{last_asked, due, is_judged, is_open, lateness, late_by, shown_until}
 use Rattle.yds_trace.specs.Document.{jobs_of, shares_of, reason_of, Judged, all_judged, stands}
 use Rattle.yds_trace_laws.specs.Laws.{NoneBeginsBefore}
@@ -88,7 +89,8 @@ each_from : (asked : Asked) (past : List Said) (number : ℕ) → AreFrom (first
     All (HasBegin (IsBehind (first_time 0 past))) (jobs_of asked past number)
 each_from asked past number from reached =
     each_job (HasBegin (IsBehind (first_time 0 past))) (begin_kept (IsBehind (first_time 0 past))) asked past number
-    (up_to_allows (IsBehind (first_time 0 past)) asked.to past reached (allowed_from (first_time 0 past) past from))
+    (up_to_allows (HasBegin (IsBehind (first_time 0 past))) asked.to past
+    (λ time is. begin_allowed (IsBehind (first_time 0 past)) time (reached time is)) (allowed_from (first_time 0 past) past from))
 
 -- # Where it is
 
@@ -128,25 +130,19 @@ each_stayed P kept asked past number to is now from =
 abbrev IsNotEnded : End → Type 0
 IsNotEnded ends.Open = ⊤
 IsNotEnded (ends.Ended time) = ⊥
-IsNotEnded (ends.Unseen time goes_on) = ⊤
 IsNotEnded (ends.Lost time) = ⊤
 
 abbrev GoesOnStill : Job → Type 0
 GoesOnStill job = IsNotEnded job.end
 
-still_lost : (b : Bool) (time last : ℕ) (goes_on : Bool) → IsNotEnded (if b then ends.Lost time else ends.Unseen last goes_on)
-still_lost true time last goes_on = tt
-still_lost false time last goes_on = tt
-
 still_kept : IsKept GoesOnStill
 still_kept = record {
   open_again = λ job is. tt;
   slept = λ time job is. tt;
+  unwoken = λ time job is. tt;
   woken = woken;
   torn = λ job is. is;
   longer = λ stretch job is. is;
-  unseen = λ came goes_on job is. tt;
-  last_lost = λ time job is. last_lost time job.slept job.end is;
   lost = λ time job is. lost time job.slept job.end is;
 }
   where
@@ -154,23 +150,24 @@ still_kept = record {
     woken true job is = is
     woken false job is = is
 
-    last_lost : (time : ℕ) (slept : Option ℕ) (end : End) → IsNotEnded end → IsNotEnded (lost_end time slept end)
-    last_lost time slept ends.Open is = tt
-    last_lost time slept (ends.Ended end) is = absurd is
-    last_lost time slept (ends.Unseen last goes_on) is = tt
-    last_lost time slept (ends.Lost last) is = tt
-
-    lost : (time : ℕ) (slept : Option ℕ) (end : End) → IsNotEnded end → IsNotEnded (lost_before time slept end)
+    lost : (time : ℕ) (slept : Option ℕ) (end : End) → IsNotEnded end → IsNotEnded (lost_end time slept end)
     lost time slept ends.Open is = tt
     lost time slept (ends.Ended end) is = absurd is
-    lost time slept (ends.Unseen last goes_on) is = still_lost (nat_lt time last) (open_until time slept) last goes_on
     lost time slept (ends.Lost last) is = tt
+
+-- and a new job hasn't
+still_allowed : (time : ℕ) → Allows GoesOnStill time
+still_allowed time = record { new = λ due_from certain early. tt; by = λ job is. by job (nat_lt time job.begin) is }
+  where
+    by : (job : Job) (b : Bool) → GoesOnStill job → GoesOnStill (if b then record job { begin = time; begin_known = false; due_from = time } else job)
+    by job true is = is
+    by job false is = is
 
 -- # Jobs that are judged
 
 -- the jobs of its task have it
 record IsOfJobs (asked : Asked) (past : List Said) (one : Judged) : Type 0 where
-  due : one.due ≡ one.job.begin + (task_at asked one.task).deadline
+  due : one.due ≡ due (task_at asked one.task) one.job
   reason : one.reason ≡ reason_of asked past (task_at asked one.task) one.job
 
 of_jobs : (asked : Asked) (past : List Said) → All (IsOfJobs asked past) (all_judged asked past)
@@ -183,7 +180,6 @@ of_jobs asked past =
 open_still : (end : End) → IsNotEnded end → is_open end ≡ true
 open_still ends.Open is = refl
 open_still (ends.Ended time) is = absurd is
-open_still (ends.Unseen time goes_on) is = refl
 open_still (ends.Lost time) is = refl
 
 not_none : (a b : Bool) → (a && b) ≡ false → a ≡ true → b ≡ false
@@ -206,13 +202,13 @@ last_within : (asked : Asked) (past : List Said) (to : ℕ) → asked.to ≡ Som
 last_within asked past to is =
     subst (λ (o : Option ℕ). (elim o as (λ _. ℕ) [ None ↦ last_time past | Some to ↦ min to (last_time past) ]) ≤ to) (sym is) (omega arith)
 
--- So none stands that begins at `to` and hasn't ended: its deadline is later.
-none_stands : (asked : Asked) (past : List Said) (to : ℕ) (one : Judged) → IsAsked asked → asked.to ≡ Some to → IsOfJobs asked past one → one.task < length asked.tasks →
+-- So none stands that begins at `to` and hasn't ended: its deadline is later, as it isn't due before a unit of time behind its begin.
+none_stands : (asked : Asked) (past : List Said) (to : ℕ) (one : Judged) → IsAsked asked → asked.to ≡ Some to → IsOfJobs asked past one →
     one.job.begin ≡ to → IsNotEnded one.job.end → stands one ≡ true → ⊥
-none_stands asked past to one fit is of known begin goes_on stand =
+none_stands asked past to one fit is of begin goes_on stand =
     let whole = whole_job asked past (task_at asked one.task) one.job (ap is_none (sym of.reason) ∙ stand) in
     let late = not_none (is_open one.job.end) (is_none (lateness asked (task_at asked one.task) (last_asked asked past) one.job)) whole.0 (open_still one.job.end goes_on) in
-    let long : asked.unit ≤ (task_at asked one.task).deadline = fit.deadlines one.task no_task known in
+    let long : one.job.begin + asked.unit ≤ due (task_at asked one.task) one.job = ltb-false (due (task_at asked one.task) one.job) (one.job.begin + asked.unit) whole.1 in
     omega (
       arith,
       late_within asked.from (last_asked asked past) (due (task_at asked one.task) one.job) one.job.end late,
@@ -237,12 +233,12 @@ begins_behind asked past one fit has of stand None is goes =
 begins_behind asked past one fit has of stand (Some to) is goes = elim (cases_lt to (first_time 0 past)) [
   | inl before ↦
       let from : AreFrom (suc to) past = from_earlier (suc to) (low to (first_time 0 past)) past (omega (arith, before)) (all_from_low to past goes) in
-      absurd (none_stands asked past to one fit is of has.known
+      absurd (none_stands asked past to one fit is of
       (begin_of_share (λ time. time ≡ to) asked past one has
       (each_stayed (HasBegin (λ time. time ≡ to)) (begin_kept (λ time. time ≡ to)) asked past one.task to is (begin_allowed (λ time. time ≡ to) to refl) from))
       (contained GoesOnStill (shares_of asked past one.task) one.job has.job
       (shares_kept GoesOnStill (λ processor job still. still) asked past one.task
-      (each_stayed GoesOnStill still_kept asked past one.task to is (record { new = λ certain. tt; by = λ job is. is }) from)))
+      (each_stayed GoesOnStill still_kept asked past one.task to is (still_allowed to) from)))
       stand)
   | inr reached ↦
       begin_of_share (IsBehind (first_time 0 past)) asked past one has

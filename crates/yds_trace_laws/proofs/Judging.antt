@@ -1,18 +1,19 @@
--- What is so of each job that is judged: its lateness is that of its end, and where it stands as it is it isn't due before time 0.
-use Rattle.yds_model.proofs.Common.{◌≡◌, ℕ, zero, suc, ◌+◌, ◌<◌, ◌≤◌, List, [], ◌∷◌, length, Bool, true, false, not, if◌then◌else◌, Option, Some, None, is_none, refl, arith, leb-true, All-from_recursion, All}
+-- What is so of each job that is judged: its lateness is that of its end, and where it stands as it is it isn't due before its begin, nor before time 0.
+use Rattle.yds_model.proofs.Common.{◌≡◌, ℕ, zero, suc, ◌+◌, ◌<◌, ◌≤◌, List, [], ◌∷◌, length, Bool, true, false, not, ◌&&◌, nat_lt, if◌then◌else◌, Option, Some, None, is_none, refl, arith, leb-true, All-from_recursion, All}
 use Rattle.std.specs.List.{AllByRecursion, slice_index_or, enumerate_from}
+use Rattle.std.proofs.lemmas.Bool.{ltb-false}
 use Rattle.yds_kernel.specs.Event.{Said}
 use Rattle.yds_trace.specs.declared.reason.Reason.{Reason}
-use Rattle.yds_trace.specs.Asked.{Task, Asked, is_after_from}
+use Rattle.yds_trace.specs.Asked.{Task, Asked, task_at, is_after_from}
 use Rattle.yds_trace.specs.Jobs.{Job}
-use Rattle.yds_trace.specs.Late.{last_asked, late_by}
-use Rattle.yds_trace.specs.Document.{Judged, began_before, jobs_of, shares_of, judged, judged_of, judged_from, all_judged, stands, least_of, least_begin, units_of}
+use Rattle.yds_trace.specs.Late.{last_asked, due, is_open, lateness, late_by}
+use Rattle.yds_trace.specs.Document.{Judged, is_lost, began_before, jobs_of, shares_of, judged, judged_of, judged_from, all_judged, stands, least_of, least_begin, units_of}
 use Rattle.yds_trace_laws.proofs.Ordered.{append-all, map-all, in_order-all}
 
 -- what each judged job is
 pub record IsJudged (asked : Asked) (last : ℕ) (one : Judged) : Type 0 where
   pub late : one.late ≡ late_by asked.from last one.due one.job.end
-  pub begun : one.job.begin ≤ one.due
+  pub begun : stands one ≡ true → one.job.begin ≤ one.due
   pub asked_for : stands one ≡ true → is_after_from asked.from one.job.begin ≡ true
 
 -- one that isn't after `from` has a reason
@@ -20,11 +21,28 @@ first_reason : (b : Bool) (r : Reason) (o : Option Reason) → is_none (if not b
 first_reason true r o stands = refl
 first_reason false r o stands = cc
 
+-- nor has one that is due before a unit of time behind its begin
+sixth_reason : (first second third fourth fifth sixth : Bool) (one two three four five six : Reason) (rest : Option Reason)
+    → is_none (if first then Some one else (if second then Some two else (if third then Some three else (if fourth then Some four
+    else (if fifth then Some five else (if sixth then Some six else rest)))))) ≡ true → sixth ≡ false
+sixth_reason true second third fourth fifth sixth one two three four five six rest stands = cc
+sixth_reason false true third fourth fifth sixth one two three four five six rest stands = cc
+sixth_reason false false true fourth fifth sixth one two three four five six rest stands = cc
+sixth_reason false false false true fifth sixth one two three four five six rest stands = cc
+sixth_reason false false false false true sixth one two three four five six rest stands = cc
+sixth_reason false false false false false true one two three four five six rest stands = cc
+sixth_reason false false false false false false one two three four five six rest stands = refl
+
 judged_is : (asked : Asked) (past : List Said) (number : ℕ) (before : Bool) (numbered : ℕ × Job) →
     IsJudged asked (last_asked asked past) (judged asked past number before numbered)
 judged_is asked past number before numbered = record {
   late = refl;
-  begun = omega arith;
+  begun = λ whole.
+      let due_then : ℕ = due (task_at asked number) numbered.1 in
+      let long : numbered.1.begin + asked.unit ≤ due_then = ltb-false due_then (numbered.1.begin + asked.unit)
+      (sixth_reason (not (is_after_from asked.from numbered.1.begin)) (is_lost (last_asked asked past) numbered.1.end) numbered.1.switch_missing
+      (is_open numbered.1.end && is_none (lateness asked (task_at asked number) (last_asked asked past) numbered.1)) (not numbered.1.begin_known)
+      (nat_lt due_then (numbered.1.begin + asked.unit)) _ _ _ _ _ _ _ whole) in omega (arith, long);
   asked_for = λ whole. first_reason (is_after_from asked.from numbered.1.begin) _ _ whole;
 }
 

@@ -1,6 +1,6 @@
 -- Of a trace's jobs only the reasons and the shares of what moved depend on the processor that is asked for. Each job belongs to a processor, and none to one of which no line
 -- tells.
-use Rattle.yds_model.proofs.Common.{◌≡◌, ◌≢◌, ◌∙◌, get_or, All, All-contains_itself, ℕ, zero, suc, ◌+◌, ◌<◌, ◌≤◌, ◌==◌, ◌&&◌, ◌||◌, max, List, [], ◌∷◌, ◌++◌, map, filter, length, Bool, true, false, not, nat_le, cond, if◌then◌else◌, Option, Some, None, is_none, refl, sym, ap, ap₂, subst, arith, inl, inr, cases_lt, eq-eqb, ne_eqb, fun_ext, map-append, All-from_recursion, Contains-append_left, Contains-push}
+use Rattle.yds_model.proofs.Common.{◌≡◌, ◌≢◌, ◌∙◌, get_or, All, All-contains_itself, ℕ, zero, suc, ◌+◌, ◌<◌, ◌≤◌, ◌==◌, ◌&&◌, ◌||◌, max, List, [], ◌∷◌, ◌++◌, map, filter, length, Bool, true, false, not, nat_lt, nat_le, cond, if◌then◌else◌, Option, Some, None, is_none, refl, sym, ap, ap₂, subst, arith, inl, inr, cases_lt, eq-eqb, ne_eqb, fun_ext, map-append, All-from_recursion, Contains-append_left, Contains-push}
 use Rattle.std.specs.List.{AllByRecursion, Contains, list_any, enumerate_from}
 use Rattle.yds_kernel.specs.Parts.{or_else, capped}
 use Rattle.yds_kernel.specs.Event.{Said}
@@ -9,13 +9,14 @@ use Rattle.yds_trace.specs.declared.job.Stretch.{Stretch}
 use Rattle.yds_trace.specs.declared.reason.Reason.{Reason}
 use Rattle.yds_trace.specs.declared.reason.Reason.TheVariants as reasons
 use Rattle.yds_trace.specs.Asked.{Task, Asked, on, task_at, is_after_from}
+use Rattle.yds_trace.specs.Past.{first_time, next_processor, processor_count}
 use Rattle.yds_trace.specs.Jobs.{Job}
-use Rattle.yds_trace.specs.Late.{last_asked, due, is_open, lateness}
-use Rattle.yds_trace.specs.Document.{Judged, is_lost, is_elsewhere, has_run_on, is_of_unknown_speed, reaches_to, is_shared_by, share_of, named, began_before, jobs_of, judged, judged_of, judged_from, put_in, in_order, all_judged, stands}
-use Rattle.yds_trace.specs.Parts.{belongs, begin_of, begins_from, begins_before, waiting_from, ended_by, is_written, is_own, has_own_job, is_closed_by, each_before, has_job, is_quiet, is_closed, last_where, place_among, is_much, is_due, may_write, waiting, is_before_end, part_until, place_of, with_part, cut_at, cut_after, next_processor, processor_count, first_numbers, processors_of}
+use Rattle.yds_trace.specs.Late.{last_asked, due, is_open, lateness, is_unsure}
+use Rattle.yds_trace.specs.Document.{Judged, is_lost, is_elsewhere, has_run_on, is_of_unknown_speed, reaches_to, is_shared_by, share_of, named, began_before, jobs_of, judged, judged_of, judged_from, put_in, in_order, all_judged}
+use Rattle.yds_trace.specs.Parts.{belongs, begin_of, begins_from, begins_before, waiting_from, is_written, is_own, has_own_job, is_closed_by, each_before, is_quiet, is_closed, last_where, place_among, is_much, is_due, waiting, is_before_end, part_until, place_of, with_part, cut_at, cut_after, first_numbers, processors_of}
 use Rattle.yds_trace.specs.Others.{Span, others_from}
 use Rattle.yds_trace.proofs.Shares.{jobs_alone, share_stranger, share_begin, share_end}
-use Rattle.yds_trace.proofs.OnProcessor.{jobs_of_on, is_settled_on, may_write_on, others_from_on}
+use Rattle.yds_trace.proofs.OnProcessor.{jobs_of_on, others_from_on}
 use Rattle.yds_trace_laws.specs.Processors.{without_reason, whole_job, JobsAreTheSame, HasItsShare, SharesAreTheWhole, OnlyItsOwn, NoneHasMoved, BelongsTo, EachJobBelongs, IsIdle, UnseenAreTheSame}
 use Rattle.yds_trace_laws.proofs.Ordered.{filter-all, append-all, in_order-all}
 use Rattle.yds_trace_laws.proofs.Runs.{all_weaker}
@@ -170,14 +171,16 @@ judged_if asked past number before numbered part moved = record {
   job = numbered.1;
   due = due (task_at asked number) numbered.1;
   late = lateness asked (task_at asked number) (last_asked asked past) numbered.1;
+  unsure = is_unsure asked (task_at asked number) (first_time 0 past) (last_asked asked past) numbered.1;
   reason = if not (is_after_from asked.from numbered.1.begin) then Some reasons.BeforeFrom
       else (if is_lost (last_asked asked past) numbered.1.end then Some reasons.EventsLost
       else (if numbered.1.switch_missing then Some reasons.SwitchMissing
       else (if is_open numbered.1.end && is_none (lateness asked (task_at asked number) (last_asked asked past) numbered.1)
       then Some (if reaches_to asked past then reasons.AfterTo else reasons.NotEnded)
       else (if not numbered.1.begin_known then Some reasons.BeginUnseen
+      else (if nat_lt (due (task_at asked number) numbered.1) (numbered.1.begin + asked.unit) then Some reasons.DueBefore
       else (if moved then Some reasons.Moved
-      else (if list_any is_of_unknown_speed numbered.1.stretches then Some reasons.SpeedUnknown else None))))));
+      else (if list_any is_of_unknown_speed numbered.1.stretches then Some reasons.SpeedUnknown else None)))))));
 }
 
 not_moved : (asked : Asked) (past : List Said) (number : ℕ) (before : Bool) (numbered : ℕ × Job) (part : Option ℕ) →
@@ -188,7 +191,8 @@ not_moved asked past number before numbered part =
     (either_not numbered.1.switch_missing _ _ (λ is. cc)
     (either_not (is_open numbered.1.end && is_none (lateness asked (task_at asked number) (last_asked asked past) numbered.1)) _ _ (later_or_open (reaches_to asked past))
     (either_not (not numbered.1.begin_known) _ _ (λ is. cc)
-    (either_not (list_any is_of_unknown_speed numbered.1.stretches) _ _ (λ is. cc) (λ is. cc))))))
+    (either_not (nat_lt (due (task_at asked number) numbered.1) (numbered.1.begin + asked.unit)) _ _ (λ is. cc)
+    (either_not (list_any is_of_unknown_speed numbered.1.stretches) _ _ (λ is. cc) (λ is. cc)))))))
 
 -- If it ran where the document is, it ran nowhere else, and isn't left out for that.
 record StaysIn (asked : Asked) (one : Judged) : Type 0 where
@@ -410,13 +414,6 @@ each_same test other time [] same = refl
 each_same test other time (one ∷ ones) same =
     ap₂ (λ (here rest : Bool). (begins_from time one || here) && rest) same.0 (each_same test other time ones same.1)
 
-quiet_same : (asked : Asked) (processor other : ℕ) (past : List Said) (ones : List Judged) (time : ℕ) →
-    is_quiet (on processor asked) past ones time ≡ is_quiet (on other asked) past ones time
-quiet_same asked processor other past ones time =
-    ap (λ (test : Judged → Bool). has_job asked time ones && each_before test time ones)
-    (fun_ext (λ (one : Judged). ap (λ (settled : Bool). settled && (not (stands one) || ended_by time one.job.end))
-    (is_settled_on asked processor past one ∙ sym (is_settled_on asked other past one))))
-
 any_same : (test other : Judged → Bool) (ones : List Judged) → AllByRecursion (λ one. test one ≡ other one) ones → list_any test ones ≡ list_any other ones
 any_same test other [] same = refl
 any_same test other (one ∷ ones) same = ap₂ (λ (here rest : Bool). here || rest) same.0 (any_same test other ones same.1)
@@ -449,17 +446,15 @@ none_open_same bound asked processor other ones time everywhere some beyond also
 closed_same : (bound : ℕ) (asked : Asked) (processor other : ℕ) (past : List Said) (ones : List Judged) (time : ℕ) → asked.everywhere ≡ true → 1 ≤ bound → bound ≤ processor →
     bound ≤ other → AllByRecursion (RanUnder bound) ones → is_closed (on processor asked) past ones time ≡ is_closed (on other asked) past ones time
 closed_same bound asked processor other past ones time everywhere some beyond also ran =
-    ap₂ (λ (quiet closed : Bool). quiet && closed)
-    (ap₂ (λ (quiet own : Bool). quiet && own) (quiet_same asked processor other past ones time)
-    (has_own_same bound asked processor other ones time everywhere some beyond also ran))
+    ap₂ (λ (before closed : Bool). before && closed)
+    (ap (λ (own : Bool). is_quiet asked past ones time && own) (has_own_same bound asked processor other ones time everywhere some beyond also ran))
     (none_open_same bound asked processor other ones time everywhere some beyond also ran)
 
 among_same : (bound : ℕ) (asked : Asked) (processor other : ℕ) (past : List Said) (ones : List Judged) → asked.everywhere ≡ true → 1 ≤ bound → bound ≤ processor →
     bound ≤ other → AllByRecursion (RanUnder bound) ones → place_among (on processor asked) past ones ≡ place_among (on other asked) past ones
 among_same bound asked processor other past ones everywhere some beyond also ran =
-    ap₂ (λ (closed quiet : ℕ → Bool). or_else (last_where closed (map begin_of ones)) (last_where quiet (map begin_of ones)))
+    ap (λ (closed : ℕ → Bool). or_else (last_where closed (map begin_of ones)) (last_where (is_quiet asked past ones) (map begin_of ones)))
     (fun_ext (λ (time : ℕ). closed_same bound asked processor other past ones time everywhere some beyond also ran))
-    (fun_ext (λ (time : ℕ). quiet_same asked processor other past ones time))
 
 place_same : (asked : Asked) (processor other : ℕ) (past : List Said) (cut : Cut) → asked.everywhere ≡ true → processor_count past ≤ processor → processor_count past ≤ other →
     place_of (on processor asked) past cut ≡ place_of (on other asked) past cut
@@ -467,13 +462,12 @@ place_same asked processor other past cut everywhere beyond also =
     let bound : ℕ = processor_count past in
     let waits : List Judged = waiting (on other asked) past cut in
     let spans : List Span = others_from (on other asked) past cut.boundary in
-    ap₂ (λ (may : Bool) (ones : List Judged). if is_due past && may && is_much ones (others_from (on processor asked) past cut.boundary)
+    ap (λ (ones : List Judged). if is_due past && is_much ones (others_from (on processor asked) past cut.boundary)
     then place_among (on processor asked) past ones else None)
-    (may_write_on asked processor past ∙ sym (may_write_on asked other past))
     (ap (filter (begins_from cut.boundary)) (judged_unseen asked past processor other beyond also))
-    ∙ ap (λ (told : List Span). if is_due past && may_write (on other asked) past && is_much waits told then place_among (on processor asked) past waits else None)
+    ∙ ap (λ (told : List Span). if is_due past && is_much waits told then place_among (on processor asked) past waits else None)
     (others_from_on asked processor past cut.boundary ∙ sym (others_from_on asked other past cut.boundary))
-    ∙ ap (λ (place : Option ℕ). if is_due past && may_write (on other asked) past && is_much waits spans then place else None)
+    ∙ ap (λ (place : Option ℕ). if is_due past && is_much waits spans then place else None)
     (among_same bound asked processor other past waits everywhere (some_processor past) beyond also (waiting_under (on other asked) past cut.boundary))
 
 cut_at_same : (asked : Asked) (processor other : ℕ) (past : List Said) (cut : Cut) (until : Option ℕ) → asked.everywhere ≡ true → processor_count past ≤ processor →

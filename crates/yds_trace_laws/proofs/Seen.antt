@@ -92,7 +92,6 @@ second_fails false b none so = cc
 ended_at : (end : End) → is_open end ≡ false → (time : ℕ) × (end ≡ ends.Ended time)
 ended_at ends.Open closed = cc
 ended_at (ends.Ended time) closed = (time, refl)
-ended_at (ends.Unseen since goes_on) closed = cc
 ended_at (ends.Lost since) closed = cc
 
 some_if : (b : Bool) (x y : ℕ) → (if b then Some x else None) ≡ Some y → x ≡ y
@@ -135,7 +134,7 @@ late_is_seen asked past units ones positive are none_before feasible i d within 
           let is = each_of_these (IsJudged asked (last_asked asked past)) (all_judged asked past) ones are (all_are_judged asked past) i d within in
           let not_before = none_before i d within whole in
           let hidden : is_hidden units one ≡ false = owes_none (is_some one.late) (is_hidden units one) (omega (arith, work)) (ap is_some late) in
-          let shown = shows units asked (last_asked asked past) one by positive (omega (arith, is.begun, not_before)) is late much hidden in
+          let shown = shows units asked (last_asked asked past) one by positive (omega (arith, is.begun whole, not_before)) is late much hidden in
           absurd (omega (arith, shown, ending))
       | inr not_whole ↦
           let one : Judged = slice_index_or ones i d in

@@ -1,5 +1,5 @@
 -- A job as the documents of one processor have it: all of it but what it ran elsewhere.
-use Rattle.yds_model.proofs.Common.{◌≡◌, ◌∙◌, ℕ, ◌==◌, ◌&&◌, List, [], ◌∷◌, map, Bool, true, false, if◌then◌else◌, refl, sym, ap, arith, length-map, get_or-map, All, All-from_recursion, recursion_from_All}
+use Rattle.yds_model.proofs.Common.{◌≡◌, ◌∙◌, ℕ, ◌==◌, ◌&&◌, List, [], ◌∷◌, map, Bool, true, false, nat_lt, if◌then◌else◌, refl, sym, ap, arith, length-map, get_or-map, All, All-from_recursion, recursion_from_All}
 use Rattle.std.specs.List.{AllByRecursion, Contains, list_any}
 use Rattle.yds_kernel.specs.declared.state.State.TheVariants as states
 use Rattle.yds_kernel.specs.Event.{Happening, Switch, WakeUp, Speed, Loss, Marker, Other, Said, Stamped, Lost, Nothing}
@@ -11,7 +11,7 @@ use Rattle.yds_trace.specs.Document.{is_elsewhere, has_run_on, jobs_of, is_share
 use Rattle.yds_trace.proofs.Shares.{share_has_run_on, share_stays, share_keeps}
 use Rattle.yds_trace_laws.specs.Sharing.{EachStretch}
 use Rattle.yds_trace_laws.proofs.Ordered.{filter-all}
-use Rattle.yds_trace_laws.proofs.Holding.{IsKept, EndsAt, AllowsEach, each_job}
+use Rattle.yds_trace_laws.proofs.Holding.{IsKept, Allows, EndsAt, AllowsEach, each_job}
 use Rattle.yds_trace_laws.proofs.Sharing.{Ran}
 
 -- # What a share keeps
@@ -61,11 +61,10 @@ unshared_kept : IsKept IsUnshared
 unshared_kept = record {
   open_again = λ job is. is;
   slept = λ time job is. is;
+  unwoken = λ time job is. is;
   woken = woken;
   torn = λ job is. is;
   longer = λ stretch job is. is;
-  unseen = λ came goes_on job is. is;
-  last_lost = λ time job is. is;
   lost = λ time job is. is;
 }
   where
@@ -84,10 +83,17 @@ unshared_ends Loss = tt
 unshared_ends Marker = tt
 unshared_ends Other = tt
 
+unshared_allowed : (time : ℕ) → Allows IsUnshared time
+unshared_allowed time = record { new = λ due_from certain early. refl; by = λ job is. by job (nat_lt time job.begin) is }
+  where
+    by : (job : Job) (b : Bool) → IsUnshared job → IsUnshared (if b then record job { begin = time; begin_known = false; due_from = time } else job)
+    by job true is = is
+    by job false is = is
+
 unshared_each : (past : List Said) → AllowsEach IsUnshared past
 unshared_each [] = tt
 unshared_each (Stamped event ∷ past) =
-    ((λ loss. record { new = λ certain. refl; by = λ job is. is }, unshared_ends event.happening), unshared_each past)
+    ((λ loss. unshared_allowed event.time, unshared_ends event.happening), unshared_each past)
 unshared_each (Lost processor reach ∷ past) = (tt, unshared_each past)
 unshared_each (Nothing ∷ past) = (tt, unshared_each past)
 

@@ -1,6 +1,8 @@
 -- No two tasks have a processor at the same time: each stretch begins when all of the others there have ended.
-use Rattle.yds_model.proofs.Common.{◌≡◌, ◌≢◌, ◌∙◌, ℕ, ◌+◌, ◌<◌, ◌≤◌, inl, inr, ◌&&◌, ◌==◌, List, [], ◌∷◌, map, reverse, length, Bool, true, false, not, nat_lt, nat_le, if◌then◌else◌, Option, Some, None, is_none, refl, sym, ap, arith, subst, cases_Bool, and_parts, eqb-true, eq-eqb, true≢false, ltb-false, leb-true, leb-false, le-leb, All, All-from_recursion}
-use Rattle.std.specs.List.{AllByRecursion}
+use Rattle.yds_model.proofs.Common.{◌≡◌, ◌≢◌, ◌∙◌, ℕ, ◌+◌, ◌<◌, ◌≤◌, inl, inr, ◌&&◌, ◌||◌, ◌==◌, cond, List, [], ◌∷◌, map, reverse, min, length, position, Bool, true, false, not, nat_lt, nat_le, if◌then◌else◌, Option, Some, None, is_some, is_none, refl, sym, ap, arith, subst, cases_Bool, cases_lt, and_parts, eqb-true, eq-eqb, true≢false, ltb-false, leb-true, leb-false, le-leb, All, All-from_recursion}
+use Rattle.std.specs.List.{AllByRecursion, position_or_len}
+use Rattle.std.proofs.lemmas.Bool.{ltb-true}
+use Rattle.yds_kernel.specs.Parts.{or_else}
 use Rattle.yds_kernel.specs.declared.state.State.{State}
 use Rattle.yds_kernel.specs.declared.state.State.TheVariants as states
 use Rattle.yds_kernel.specs.declared.loss.Since.TheVariants as since
@@ -10,15 +12,16 @@ use Rattle.yds_trace.specs.declared.job.End.TheVariants as ends
 use Rattle.yds_trace.specs.declared.job.Stretch.{Stretch}
 use Rattle.yds_trace.specs.declared.job.Standing.{Standing}
 use Rattle.yds_trace.specs.declared.job.Leaving.{Leaving}
+use Rattle.yds_trace.specs.declared.job.Pace.{Pace}
 use Rattle.yds_trace.specs.declared.job.Woken.{Woken}
-use Rattle.yds_trace.specs.Asked.{Asked, task_at, task_of, is_number, is_of, is_before_to}
+use Rattle.yds_trace.specs.Asked.{Task, Asked, task_at, task_of, pace_of, is_number, is_numbered, is_named, is_of, is_before_to}
 use Rattle.yds_trace.specs.declared.fault.Cause.{Cause}
 use Rattle.yds_trace.specs.declared.fault.Cause.TheVariants as causes
-use Rattle.yds_trace.specs.Past.{last_time, is_loss, is_switch, whole_since, has_switched, lost_since, counts, is_first_switch, stayed, up_to_time, up_to, speed_after}
-use Rattle.yds_trace.specs.Faults.{first_fault, numbered, said_fault, stamped_fault, behind_fault, place_fault, length_fault, threads_fault, event_fault, stayed_fault, happening_fault, is_torn}
+use Rattle.yds_trace.specs.Past.{last_time, is_loss, is_switch, lines_since, last_switch, has_switched, lost_since, counts, is_first_switch, stayed, up_to_time, up_to, speed_after}
+use Rattle.yds_trace.specs.Faults.{first_fault, numbered, said_fault, stamped_fault, behind_fault, place_fault, length_fault, threads_fault, event_fault, stayed_fault, happening_fault, loss_fault}
 use Rattle.yds_trace.specs.Late.{last_asked}
 use Rattle.yds_trace.specs.Document.{closed}
-use Rattle.yds_trace.specs.Jobs.{Job, Known, began, reopened, woken_after, counted as counted_job, woken_jobs, awake_jobs, went_on, back_jobs, come_jobs, running_jobs, changed_last, ended, exits, missing, ran, left_unseen, vanished, stands_on, comes, has_no_switch, is_new, begun_by, begun_at_most, stretch_of, left_from, left_in, woken_at, wakes_up, speeds, lost_job, lost_earlier, lost_jobs, loses, leaving_at, left_if, after_switch, after_event, known_after}
+use Rattle.yds_trace.specs.Jobs.{Job, Known, began, began_behind, reopened, woken_after, counted as counted_job, woken_jobs, went_on, unended, back_jobs, come_jobs, running_jobs, found_jobs, changed_last, ended, exits, missing, ran, loses, torn_jobs, torn, torn_if, is_displaced, missing_since, last_told, is_there, comes, begun_by, begun_at_most, stretch_of, left_unseen, left_from, left_in, woken_at, wakes_up, speeds, lost_job, leaving_at, earlier, missing_of, left_if, after_switch, after_event, all_known, known_after}
 use Rattle.yds_trace_laws.specs.Sharing.{AreApart, EachStretch}
 use Rattle.yds_trace_laws.specs.Laws.{TasksHaveOwnTime}
 use Rattle.yds_trace_laws.proofs.Begins.{or_none, numbered_none}
@@ -37,13 +40,12 @@ if_known : (P : Stretch → Type 0) (b : Bool) (known other : Known) → Ran P k
 if_known P true known other all others = all
 if_known P false known other all others = others
 
-by_end : (P : Stretch → Type 0) (end : End) (whole : List Job) (ended : ℕ → List Job) (unseen : ℕ → Bool → List Job) (lost : ℕ → List Job) →
-    Ran P whole → ((time : ℕ) → Ran P (ended time)) → ((time : ℕ) (goes_on : Bool) → Ran P (unseen time goes_on)) → ((time : ℕ) → Ran P (lost time)) →
-    Ran P (elim end [ ends.Open ↦ whole | ends.Ended time ↦ ended time | ends.Unseen time goes_on ↦ unseen time goes_on | ends.Lost time ↦ lost time ])
-by_end P ends.Open whole ended unseen lost a b c d = a
-by_end P (ends.Ended time) whole ended unseen lost a b c d = b time
-by_end P (ends.Unseen time goes_on) whole ended unseen lost a b c d = c time goes_on
-by_end P (ends.Lost time) whole ended unseen lost a b c d = d time
+by_end : (P : Stretch → Type 0) (end : End) (whole : List Job) (ended : ℕ → List Job) (lost : ℕ → List Job) →
+    Ran P whole → ((time : ℕ) → Ran P (ended time)) → ((time : ℕ) → Ran P (lost time)) →
+    Ran P (elim end [ ends.Open ↦ whole | ends.Ended time ↦ ended time | ends.Lost time ↦ lost time ])
+by_end P ends.Open whole ended lost a b c = a
+by_end P (ends.Ended time) whole ended lost a b c = b time
+by_end P (ends.Lost time) whole ended lost a b c = c time
 
 -- a job that is changed, but not its stretches
 changed_ran : (P : Stretch → Type 0) (change : Job → Job) → ((job : Job) → AllByRecursion P job.stretches → AllByRecursion P (change job).stretches) → (jobs : List Job) →
@@ -55,9 +57,9 @@ changed_ran P change keeps (job ∷ jobs) all = (keeps job all.0, all.1)
 more_ran : (P : Stretch → Type 0) (stretch : Stretch) (jobs : List Job) → P stretch → Ran P jobs → Ran P (changed_last (ran stretch) jobs)
 more_ran P stretch jobs has all = changed_ran P (ran stretch) (λ job rest. (has, rest)) jobs all
 
-woken_after_ran : (P : Stretch → Type 0) (apart time : ℕ) (job : Job) (jobs : List Job) → Ran P (job ∷ jobs) → Ran P (woken_after apart time job jobs)
-woken_after_ran P apart time job jobs all =
-    if_ran P (not (nat_lt time (job.begin + apart))) (began time true (job ∷ jobs))
+woken_after_ran : (P : Stretch → Type 0) (pace : Pace) (time : ℕ) (job : Job) (jobs : List Job) → Ran P (job ∷ jobs) → Ran P (woken_after pace time job jobs)
+woken_after_ran P pace time job jobs all =
+    if_ran P (not (nat_lt time (job.begin + pace.apart))) (began_behind pace.period time job jobs)
     (if job.begin_known then reopened job ∷ jobs else began time false (job ∷ jobs)) (tt, all)
     (if_ran P job.begin_known (reopened job ∷ jobs) (began time false (job ∷ jobs)) all (tt, all))
 
@@ -65,144 +67,154 @@ again_ran : (P : Stretch → Type 0) (again : Bool) (job : Job) → AllByRecursi
 again_ran P true job all = all
 again_ran P false job all = all
 
-woken_ran : (P : Stretch → Type 0) (apart time : ℕ) (again : Bool) (jobs : List Job) → Ran P jobs → Ran P (woken_jobs apart time again jobs)
-woken_ran P apart time again [] all = (tt, tt)
-woken_ran P apart time again (job ∷ jobs) all =
-    by_end P job.end (counted_job again job ∷ jobs) (λ end. woken_after apart time job jobs) (λ last goes_on. began time true (job ∷ jobs)) (λ last. began time true (job ∷ jobs))
-    (again_ran P again job all.0, all.1) (λ end. woken_after_ran P apart time job jobs all) (λ last goes_on. (tt, all)) (λ last. (tt, all))
+woken_ran : (P : Stretch → Type 0) (pace : Pace) (time : ℕ) (again : Bool) (jobs : List Job) → Ran P jobs → Ran P (woken_jobs pace time again jobs)
+woken_ran P pace time again [] all = (tt, tt)
+woken_ran P pace time again (job ∷ jobs) all =
+    by_end P job.end (counted_job again job ∷ jobs) (λ end. woken_after pace time job jobs) (λ last. began time true (job ∷ jobs))
+    (again_ran P again job all.0, all.1) (λ end. woken_after_ran P pace time job jobs all) (λ last. (tt, all))
 
-awake_ran : (P : Stretch → Type 0) (time : ℕ) (jobs : List Job) → Ran P jobs → Ran P (awake_jobs time jobs)
-awake_ran P time [] all = (tt, tt)
-awake_ran P time (job ∷ jobs) all =
-    by_end P job.end (job ∷ jobs) (λ end. began time false (job ∷ jobs)) (λ last goes_on. if goes_on then reopened job ∷ jobs else began time false (job ∷ jobs))
-    (λ last. began time false (job ∷ jobs)) all (λ end. (tt, all))
-    (λ last goes_on. if_ran P goes_on (reopened job ∷ jobs) (began time false (job ∷ jobs)) all (tt, all)) (λ last. (tt, all))
+back_ran : (P : Stretch → Type 0) (pace : Pace) (time end : ℕ) (ever : Bool) (started : Option ℕ) (job : Job) (jobs : List Job) → Ran P (job ∷ jobs) →
+    Ran P (back_jobs pace time end ever started job jobs)
+back_ran P pace time end ever None job jobs all = if_ran P (ever && is_none job.slept) (went_on end job ∷ jobs) (began time false (unended end job ∷ jobs)) all (tt, all)
+back_ran P pace time end ever (Some woken) job jobs all = woken_after_ran P pace woken job jobs all
 
-slept_ran : (P : Stretch → Type 0) (slept : Option ℕ) (time end : ℕ) (job : Job) (jobs : List Job) → Ran P (job ∷ jobs) →
-    Ran P (elim slept [ None ↦ went_on end job ∷ jobs | Some first ↦ began time false (lost_job first job ∷ jobs) ])
-slept_ran P None time end job jobs all = all
-slept_ran P (Some first) time end job jobs all = (tt, all)
+come_ran : (P : Stretch → Type 0) (pace : Pace) (time : ℕ) (woken : Woken) (jobs : List Job) → Ran P jobs → Ran P (come_jobs pace time woken jobs)
+come_ran P pace time woken [] all = (tt, tt)
+come_ran P pace time woken (job ∷ jobs) all =
+    by_end P job.end (job ∷ jobs) (λ end. if woken.seen then back_jobs pace time end woken.ever woken.started job jobs else began time false (job ∷ jobs))
+    (λ last. began time false (job ∷ jobs)) all
+    (λ end. if_ran P woken.seen (back_jobs pace time end woken.ever woken.started job jobs) (began time false (job ∷ jobs))
+    (back_ran P pace time end woken.ever woken.started job jobs all) (tt, all))
+    (λ last. (tt, all))
 
-back_ran : (P : Stretch → Type 0) (apart time end : ℕ) (started : Option ℕ) (job : Job) (jobs : List Job) → Ran P (job ∷ jobs) →
-    Ran P (back_jobs apart time end started job jobs)
-back_ran P apart time end None job jobs all = slept_ran P job.slept time end job jobs all
-back_ran P apart time end (Some woken) job jobs all = woken_after_ran P apart woken job jobs all
+running_ran : (P : Stretch → Type 0) (pace : Pace) (time : ℕ) (jobs : List Job) → Ran P jobs → Ran P (running_jobs pace time jobs)
+running_ran P pace time [] all = (tt, tt)
+running_ran P pace time (job ∷ jobs) all =
+    by_end P job.end (job ∷ jobs) (λ end. woken_after pace time job jobs) (λ last. began time false (job ∷ jobs))
+    all (λ end. woken_after_ran P pace time job jobs all) (λ last. (tt, all))
 
-come_ran : (P : Stretch → Type 0) (apart time : ℕ) (woken : Woken) (jobs : List Job) → Ran P jobs → Ran P (come_jobs apart time woken jobs)
-come_ran P apart time woken [] all = (tt, tt)
-come_ran P apart time woken (job ∷ jobs) all =
-    by_end P job.end (job ∷ jobs) (λ end. if woken.seen then back_jobs apart time end woken.started job jobs else began time false (job ∷ jobs))
-    (λ last goes_on. if goes_on then reopened job ∷ jobs else began time false (job ∷ jobs)) (λ last. began time false (job ∷ jobs)) all
-    (λ end. if_ran P woken.seen (back_jobs apart time end woken.started job jobs) (began time false (job ∷ jobs)) (back_ran P apart time end woken.started job jobs all) (tt, all))
-    (λ last goes_on. if_ran P goes_on (reopened job ∷ jobs) (began time false (job ∷ jobs)) all (tt, all)) (λ last. (tt, all))
+found_ran : (P : Stretch → Type 0) (time : ℕ) (certain : Bool) (jobs : List Job) → Ran P jobs → Ran P (found_jobs time certain jobs)
+found_ran P time certain [] all = (tt, tt)
+found_ran P time certain (job ∷ jobs) all =
+    by_end P job.end (job ∷ jobs) (λ end. began time certain (job ∷ jobs)) (λ last. began time certain (job ∷ jobs)) all (λ end. (tt, all)) (λ last. (tt, all))
 
-running_ran : (P : Stretch → Type 0) (apart time : ℕ) (jobs : List Job) → Ran P jobs → Ran P (running_jobs apart time jobs)
-running_ran P apart time [] all = (tt, tt)
-running_ran P apart time (job ∷ jobs) all =
-    by_end P job.end (job ∷ jobs) (λ end. woken_after apart time job jobs) (λ last goes_on. began time false (job ∷ jobs)) (λ last. began time false (job ∷ jobs))
-    all (λ end. woken_after_ran P apart time job jobs all) (λ last goes_on. (tt, all)) (λ last. (tt, all))
+begun_at_ran : (P : Stretch → Type 0) (time : ℕ) (job : Job) → AllByRecursion P job.stretches → AllByRecursion P (begun_at_most time job).stretches
+begun_at_ran P time job all = by (nat_lt time job.begin)
+  where
+    by : (b : Bool) → AllByRecursion P (if b then record job { begin = time; begin_known = false; due_from = time } else job).stretches
+    by true = all
+    by false = all
 
 begun_ran : (P : Stretch → Type 0) (time : ℕ) (jobs : List Job) → Ran P jobs → Ran P (begun_by time jobs)
 begun_ran P time [] all = (tt, tt)
 begun_ran P time (job ∷ jobs) all =
-    by_end P job.end (begun_at_most time job ∷ jobs) (λ end. began time false (job ∷ jobs)) (λ last goes_on. began time false (job ∷ jobs)) (λ last. began time false (job ∷ jobs))
-    all (λ end. (tt, all)) (λ last goes_on. (tt, all)) (λ last. (tt, all))
+    by_end P job.end (begun_at_most time job ∷ jobs) (λ end. began time false (job ∷ jobs)) (λ last. began time false (job ∷ jobs))
+    (begun_at_ran P time job all.0, all.1) (λ end. (tt, all)) (λ last. (tt, all))
 
-vanished_on : (P : Stretch → Type 0) (wakes : Bool) (on : Option Standing) (known : Known) → Ran P known.jobs →
-    (let after : Known = elim on [
-      | None ↦ known
-      | Some standing ↦ record {
-        jobs = changed_last (left_unseen standing.came (wakes && not known.woken.came)) known.jobs;
-        on = None;
-        woken = record known.woken { started = None };
-      }
-    ] in Ran P after.jobs)
-vanished_on P wakes None known all = all
-vanished_on P wakes (Some standing) known all = changed_ran P (left_unseen standing.came (wakes && not known.woken.came)) (λ job is. is) known.jobs all
+comes_ran : (P : Stretch → Type 0) (pace : Pace) (wakes : Bool) (processor time : ℕ) (known : Known) → Ran P known.jobs → Ran P (comes pace wakes processor time known).jobs
+comes_ran P pace wakes processor time known all =
+    if_ran P wakes (come_jobs pace time known.woken known.jobs) (running_jobs pace time known.jobs)
+    (come_ran P pace time known.woken known.jobs all) (running_ran P pace time known.jobs all)
 
-vanished_ran : (P : Stretch → Type 0) (wakes : Bool) (known : Known) → Ran P known.jobs → Ran P (vanished wakes known).jobs
-vanished_ran P wakes known all = vanished_on P wakes known.on known all
+left_in_ran : (P : Stretch → Type 0) (state : State) (time : ℕ) (jobs : List Job) → Ran P jobs → Ran P (left_in state time jobs)
+left_in_ran P states.GoesOn time jobs all = all
+left_in_ran P states.Sleeps time jobs all = changed_ran P (ended time) (λ job is. is) jobs all
+left_in_ran P states.Exits time jobs all = changed_ran P (exits time) (λ job is. is) jobs all
+left_in_ran P states.Unknown time jobs all = changed_ran P (lost_job time) (λ job is. is) jobs all
 
-comes_ran : (P : Stretch → Type 0) (apart : ℕ) (wakes : Bool) (processor time : ℕ) (known : Known) → Ran P known.jobs → Ran P (comes apart wakes processor time known).jobs
-comes_ran P apart wakes processor time known all =
-    let before : Ran P (vanished wakes known).jobs = vanished_ran P wakes known all in
-    if_ran P wakes (come_jobs apart time (vanished wakes known).woken (vanished wakes known).jobs) (running_jobs apart time (vanished wakes known).jobs)
-    (come_ran P apart time (vanished wakes known).woken (vanished wakes known).jobs before) (running_ran P apart time (vanished wakes known).jobs before)
-
-left_in_ran : (P : Stretch → Type 0) (wakes : Bool) (state : State) (time : ℕ) (jobs : List Job) → Ran P jobs → Ran P (left_in wakes state time jobs)
-left_in_ran P wakes states.GoesOn time jobs all = all
-left_in_ran P wakes states.Sleeps time jobs all = changed_ran P (ended time) (λ job is. is) jobs all
-left_in_ran P wakes states.Exits time jobs all = changed_ran P (exits time) (λ job is. is) jobs all
-left_in_ran P wakes states.Unknown time jobs all = changed_ran P (left_unseen time wakes) (λ job is. is) jobs all
-
-earlier_ran : (P : Stretch → Type 0) (time : ℕ) (jobs : List Job) → Ran P jobs → Ran P (map (lost_earlier time) jobs)
-earlier_ran P time [] all = tt
-earlier_ran P time (job ∷ jobs) all = (all.0, earlier_ran P time jobs all.1)
-
-pub lost_ran : (P : Stretch → Type 0) (time : ℕ) (jobs : List Job) → Ran P jobs → Ran P (lost_jobs time jobs)
+pub lost_ran : (P : Stretch → Type 0) (time : ℕ) (jobs : List Job) → Ran P jobs → Ran P (map (lost_job time) jobs)
 lost_ran P time [] all = tt
-lost_ran P time (job ∷ jobs) all = (all.0, earlier_ran P time jobs all.1)
+lost_ran P time (job ∷ jobs) all = (all.0, lost_ran P time jobs all.1)
+
+-- What is missing before a switch takes no stretch away.
+torn_ran : (P : Stretch → Type 0) (left came : Bool) (processor since : ℕ) (known : Known) → Ran P known.jobs → Ran P (torn left came processor since known).jobs
+torn_ran P left came processor since known all = by known.on
+  where
+    by : (on : Option Standing) → (let after : Known = elim on [
+      | None ↦ loses since known
+      | Some standing ↦ if left || came || (standing.processor == processor) then loses since known
+          else record known { jobs = torn_jobs since standing.came known.jobs }
+    ] in Ran P after.jobs)
+    by None = lost_ran P since known.jobs all
+    by (Some standing) =
+        if_known P (left || came || (standing.processor == processor)) (loses since known) (record known { jobs = torn_jobs since standing.came known.jobs })
+        (lost_ran P since known.jobs all)
+        (if_ran P (nat_lt since standing.came) (began standing.came false (map (lost_job since) known.jobs)) known.jobs (tt, lost_ran P since known.jobs all) all)
 
 -- # A stretch more
 
--- When a thread leaves a processor: it came there, or nobody switched there before.
+-- When a thread leaves a processor, before which no switch is missing: it came there, or nobody switched there before.
 pub data IsLeft (known : Known) (leaving : Leaving) (stretch : Stretch) : Type 0 where
-  Came : (standing : Standing) (on : known.on ≡ Some standing) (there : standing.processor ≡ leaving.processor) (is : stretch ≡ stretch_of leaving standing.since) → IsLeft known leaving stretch
-  Unseen : (first : leaving.has_switched ≡ false) (is : stretch ≡ stretch_of leaving leaving.whole_since) → IsLeft known leaving stretch
+  Came : (standing : Standing) (on : known.on ≡ Some standing) (is : stretch ≡ stretch_of leaving standing.since) → IsLeft known leaving stretch
+  Unseen : (first : is_none leaving.switched ≡ true) (is : stretch ≡ stretch_of leaving leaving.lines_since) → IsLeft known leaving stretch
 
-here_ran : (P : Stretch → Type 0) (leaving : Leaving) (on : Option Standing) (jobs : List Job) → Ran P jobs →
-    ((standing : Standing) → on ≡ Some standing → P (stretch_of leaving standing.since)) →
-    Ran P (elim on [ None ↦ jobs | Some standing ↦ changed_last (ran (stretch_of leaving standing.since)) jobs ])
-here_ran P leaving None jobs all new = all
-here_ran P leaving (Some standing) jobs all new = more_ran P (stretch_of leaving standing.since) jobs (new standing refl) all
-
-stands_there : (processor : ℕ) (on : Option Standing) (standing : Standing) → on ≡ Some standing → stands_on processor on ≡ true → standing.processor ≡ processor
-stands_there processor None standing is so = cc
-stands_there processor (Some other) standing is so =
-    let same : other ≡ standing = cc in ap (λ (one : Standing). one.processor) (sym same) ∙ eqb-true other.processor processor so
-
-not_false : (b : Bool) → not b ≡ true → b ≡ false
-not_false true so = cc
-not_false false so = refl
-
-left_from_ran : (P : Stretch → Type 0) (wakes : Bool) (leaving : Leaving) (known : Known) → Ran P known.jobs →
-    ((stretch : Stretch) → IsLeft known leaving stretch → P stretch) → Ran P (left_from wakes leaving known)
-left_from_ran P wakes leaving known all new = first (stands_on leaving.processor known.on) refl
+left_unseen_ran : (P : Stretch → Type 0) (pace : Pace) (wakes torn : Bool) (leaving : Leaving) (known : Known) → Ran P known.jobs →
+    (torn ≡ false → is_none leaving.switched ≡ true → P (stretch_of leaving leaving.lines_since)) → Ran P (left_unseen pace wakes torn leaving known)
+left_unseen_ran P pace wakes torn leaving known all new =
+    if_ran P leaving.renamed (found_jobs leaving.time true known.jobs)
+    (if not torn && is_none leaving.switched && not known.woken.seen then there else gone) (found_ran P leaving.time true known.jobs all)
+    (by (not torn && is_none leaving.switched && not known.woken.seen) refl)
   where
-    here : List Job
-    here = elim known.on [ None ↦ known.jobs | Some standing ↦ changed_last (ran (stretch_of leaving standing.since)) known.jobs ]
-
-    unseen : List Job
-    unseen = changed_last (ran (stretch_of leaving leaving.whole_since)) (begun_by leaving.whole_since known.jobs)
+    there : List Job
+    there = changed_last (ran (stretch_of leaving leaving.lines_since)) (begun_by leaving.lines_since known.jobs)
 
     gone : List Job
-    gone = changed_last missing (awake_jobs leaving.time (vanished wakes known).jobs)
+    gone = changed_last missing (if wakes then come_jobs pace leaving.time known.woken known.jobs else found_jobs leaving.time false known.jobs)
 
-    second : (b : Bool) → (is_none known.on && not leaving.has_switched && is_new known) ≡ b → Ran P (if b then unseen else gone)
-    second true is =
-        let parts = and_parts (is_none known.on && not leaving.has_switched) (is_new known) is in
-        let two = and_parts (is_none known.on) (not leaving.has_switched) parts.0 in
-        more_ran P (stretch_of leaving leaving.whole_since) (begun_by leaving.whole_since known.jobs)
-        (new (stretch_of leaving leaving.whole_since) (Unseen (not_false leaving.has_switched two.1) refl)) (begun_ran P leaving.whole_since known.jobs all)
-    second false is = changed_ran P missing (λ job is. is) (awake_jobs leaving.time (vanished wakes known).jobs) (awake_ran P leaving.time (vanished wakes known).jobs (vanished_ran P wakes known all))
+    not_false : (b : Bool) → not b ≡ true → b ≡ false
+    not_false true so = cc
+    not_false false so = refl
 
-    first : (b : Bool) → stands_on leaving.processor known.on ≡ b →
-        Ran P (if b then here else (if is_none known.on && not leaving.has_switched && is_new known then unseen else gone))
-    first true is =
-        here_ran P leaving known.on known.jobs all
-        (λ standing on. new (stretch_of leaving standing.since) (Came standing on (stands_there leaving.processor known.on standing on is) refl))
-    first false is = second (is_none known.on && not leaving.has_switched && is_new known) refl
+    by : (b : Bool) → (not torn && is_none leaving.switched && not known.woken.seen) ≡ b → Ran P (if b then there else gone)
+    by true is =
+        let parts = and_parts (not torn && is_none leaving.switched) (not known.woken.seen) is in
+        let two = and_parts (not torn) (is_none leaving.switched) parts.0 in
+        more_ran P (stretch_of leaving leaving.lines_since) (begun_by leaving.lines_since known.jobs) (new (not_false torn two.0) two.1)
+        (begun_ran P leaving.lines_since known.jobs all)
+    by false is =
+        changed_ran P missing (λ job own. own) (if wakes then come_jobs pace leaving.time known.woken known.jobs else found_jobs leaving.time false known.jobs)
+        (if_ran P wakes (come_jobs pace leaving.time known.woken known.jobs) (found_jobs leaving.time false known.jobs)
+        (come_ran P pace leaving.time known.woken known.jobs all) (found_ran P leaving.time false known.jobs all))
 
-pub switch_ran : (P : Stretch → Type 0) (apart : ℕ) (wakes left came : Bool) (state : State) (leaving : Leaving) (known : Known) → Ran P known.jobs →
-    (left ≡ true → (stretch : Stretch) → IsLeft known leaving stretch → P stretch) → Ran P (after_switch apart wakes left came state leaving known).jobs
-switch_ran P apart wakes left came state leaving known all new =
-    let gone : Ran P (left_if wakes left state leaving known).jobs = by left new in
-    if_known P came (comes apart wakes leaving.processor leaving.time (left_if wakes left state leaving known)) (left_if wakes left state leaving known)
-    (comes_ran P apart wakes leaving.processor leaving.time (left_if wakes left state leaving known) gone) gone
+left_from_ran : (P : Stretch → Type 0) (pace : Pace) (wakes : Bool) (leaving : Leaving) (known : Known) → Ran P known.jobs →
+    ((stretch : Stretch) → IsLeft known leaving stretch → P stretch) → Ran P (left_from pace wakes false leaving known)
+left_from_ran P pace wakes leaving known all new = by known.on refl
   where
-    by : (b : Bool) → (b ≡ true → (stretch : Stretch) → IsLeft known leaving stretch → P stretch) → Ran P (left_if wakes b state leaving known).jobs
-    by true new = left_in_ran P wakes state leaving.time (left_from wakes leaving known) (left_from_ran P wakes leaving known all (new refl))
-    by false new = if_known P (stands_on leaving.processor known.on) (vanished wakes known) known (vanished_ran P wakes known all) all
+    by : (on : Option Standing) → known.on ≡ on → Ran P (elim on [
+      | None ↦ left_unseen pace wakes false leaving known
+      | Some standing ↦ changed_last (ran (stretch_of leaving standing.since)) known.jobs
+    ])
+    by None on = left_unseen_ran P pace wakes false leaving known all (λ whole first. new (stretch_of leaving leaving.lines_since) (Unseen first refl))
+    by (Some standing) on = more_ran P (stretch_of leaving standing.since) known.jobs (new (stretch_of leaving standing.since) (Came standing on refl)) all
+
+-- A thread that leaves is lost, where a switch is missing before that.
+torn_left : (came : Bool) (processor since : ℕ) (known : Known) → torn true came processor since known ≡ loses since known
+torn_left came processor since known = by known.on
+  where
+    by : (on : Option Standing) → ◌≡◌ {A = Known} (elim on [
+      | None ↦ loses since known
+      | Some standing ↦ if true || came || (standing.processor == processor) then loses since known
+          else record known { jobs = torn_jobs since standing.came known.jobs }
+    ]) (loses since known)
+    by None = refl
+    by (Some standing) = refl
+
+pub switch_ran : (P : Stretch → Type 0) (pace : Pace) (wakes left came : Bool) (state : State) (leaving : Leaving) (since : Option ℕ) (known : Known) → Ran P known.jobs →
+    (left ≡ true → since ≡ None → (stretch : Stretch) → IsLeft known leaving stretch → P stretch) → Ran P (after_switch pace wakes left came state leaving since known).jobs
+switch_ran P pace wakes left came state leaving since known all new =
+    let after : Known = left_if pace wakes (is_some since) left state leaving (torn_if left came leaving.processor since known) in
+    let gone : Ran P after.jobs = by left since new in
+    if_known P came (comes pace wakes leaving.processor leaving.time after) after (comes_ran P pace wakes leaving.processor leaving.time after gone) gone
+  where
+    by : (left : Bool) (since : Option ℕ) → (left ≡ true → since ≡ None → (stretch : Stretch) → IsLeft known leaving stretch → P stretch) →
+        Ran P (left_if pace wakes (is_some since) left state leaving (torn_if left came leaving.processor since known)).jobs
+    by true None new = left_in_ran P state leaving.time (left_from pace wakes false leaving known) (left_from_ran P pace wakes leaving known all (new refl refl))
+    by true (Some time) new =
+        subst (λ (before : Known). Ran P (left_in state leaving.time (left_from pace wakes true leaving before))) (sym (torn_left came leaving.processor time known))
+        (left_in_ran P state leaving.time (left_unseen pace wakes true leaving (loses time known))
+        (left_unseen_ran P pace wakes true leaving (loses time known) (lost_ran P time known.jobs all) (λ whole first. cc whole)))
+    by false None new = all
+    by false (Some time) new = torn_ran P false came leaving.processor time known all
 
 -- the stretch that a change of speed ends
 abbrev before_change : ℕ → ℕ → Option ℕ → Standing → Stretch
@@ -234,47 +246,43 @@ speeds_ran P processor time khz known all new = by known.on new
 
 -- # Where a thread runs
 
--- It runs on after an event where it ran before it, or it came just then.
-pub data IsOn (before : Option Standing) (processor time : ℕ) (fresh : Type 0) (standing : Standing) : Type 0 where
-  Still : (on : before ≡ Some standing) (elsewhere : standing.processor ≢ processor) → IsOn before processor time fresh standing
-  Fresh : (how : fresh) (there : standing.processor ≡ processor) (now : standing.since ≡ time) → IsOn before processor time fresh standing
+-- It runs on after an event where it ran before it, and is away from where that is, or it came just then.
+pub data IsOn (before : Option Standing) (away : Standing → Type 0) (processor time : ℕ) (fresh : Type 0) (standing : Standing) : Type 0 where
+  Still : (on : before ≡ Some standing) (elsewhere : away standing) → IsOn before away processor time fresh standing
+  Fresh : (how : fresh) (there : standing.processor ≡ processor) (now : standing.since ≡ time) → IsOn before away processor time fresh standing
 
-vanished_off : (wakes : Bool) (known : Known) (standing : Standing) → (vanished wakes known).on ≡ Some standing → ⊥
-vanished_off wakes known standing is = by known.on refl is
-  where
-    by : (on : Option Standing) → known.on ≡ on → (let after : Known = elim on [
-      | None ↦ known
-      | Some standing ↦ record {
-        jobs = changed_last (left_unseen standing.came (wakes && not known.woken.came)) known.jobs;
-        on = None;
-        woken = record known.woken { started = None };
-      }
-    ] in after.on) ≡ Some standing → ⊥
-    by None off some = let both : None ≡ Some standing = sym off ∙ some in cc both
-    by (Some other) off some = cc some
-
-elsewhere_on : (processor : ℕ) (on : Option Standing) (standing : Standing) → on ≡ Some standing → stands_on processor on ≡ false → standing.processor ≢ processor
-elsewhere_on processor None standing is off same = cc is
-elsewhere_on processor (Some other) standing is off same =
-    let one : other ≡ standing = cc is in
-    let here : (other.processor == processor) ≡ true = eq-eqb other.processor processor (ap (λ (s : Standing). s.processor) one ∙ same) in
-    true≢false (sym here ∙ off)
-
-pub switch_on : (apart : ℕ) (wakes left came : Bool) (state : State) (leaving : Leaving) (known : Known) (standing : Standing) →
-    (after_switch apart wakes left came state leaving known).on ≡ Some standing → IsOn known.on leaving.processor leaving.time (came ≡ true) standing
-switch_on apart wakes left true state leaving known standing is =
+-- away is who stands elsewhere, or isn't missing in a switch
+pub switch_on : (away : Standing → Type 0) (pace : Pace) (wakes left came : Bool) (state : State) (leaving : Leaving) (since : Option ℕ) (known : Known) →
+    ((standing : Standing) → known.on ≡ Some standing → left ≡ false → (standing.processor ≡ leaving.processor → since ≡ None) → away standing) → (standing : Standing) →
+    (after_switch pace wakes left came state leaving since known).on ≡ Some standing → IsOn known.on away leaving.processor leaving.time (came ≡ true) standing
+switch_on away pace wakes left true state leaving since known gone standing is =
     let same : record { processor = leaving.processor; came = leaving.time; since = leaving.time } ≡ standing = cc is in
     Fresh refl (ap (λ (s : Standing). s.processor) (sym same)) (ap (λ (s : Standing). s.since) (sym same))
-switch_on apart wakes true false state leaving known standing is = absurd (cc is)
-switch_on apart wakes false false state leaving known standing is = by (stands_on leaving.processor known.on) refl is
+switch_on away pace wakes true false state leaving since known gone standing is = absurd (cc is)
+switch_on away pace wakes false false state leaving None known gone standing is = Still is (gone standing is refl (λ here. refl))
+switch_on away pace wakes false false state leaving (Some since) known gone standing is = by known.on refl is
   where
-    by : (b : Bool) → stands_on leaving.processor known.on ≡ b → (let after : Known = if b then vanished wakes known else known in after.on) ≡ Some standing →
-        IsOn known.on leaving.processor leaving.time (false ≡ true) standing
-    by true there some = absurd (vanished_off wakes known standing some)
-    by false there some = Still some (elsewhere_on leaving.processor known.on standing some there)
+    other : (before : Standing) → known.on ≡ Some before → (b : Bool) → (before.processor == leaving.processor) ≡ b →
+        (if b then loses since known else record known { jobs = torn_jobs since before.came known.jobs }).on ≡ Some standing →
+        IsOn known.on away leaving.processor leaving.time (false ≡ true) standing
+    other before on true there some = absurd (cc some)
+    other before on false there some =
+        let both : Some before ≡ Some standing = sym on ∙ some in
+        let one : before ≡ standing = cc both in
+        Still some (gone standing some refl (λ here.
+        let now : (before.processor == leaving.processor) ≡ true = eq-eqb before.processor leaving.processor (ap (λ (s : Standing). s.processor) one ∙ here) in
+        absurd (true≢false (sym now ∙ there))))
+
+    by : (on : Option Standing) → known.on ≡ on → (let after : Known = elim on [
+      | None ↦ loses since known
+      | Some before ↦ if false || false || (before.processor == leaving.processor) then loses since known
+          else record known { jobs = torn_jobs since before.came known.jobs }
+    ] in after.on) ≡ Some standing → IsOn known.on away leaving.processor leaving.time (false ≡ true) standing
+    by None off some = absurd (cc some)
+    by (Some before) on some = other before on (before.processor == leaving.processor) refl some
 
 pub speeds_on : (processor time : ℕ) (khz : Option ℕ) (known : Known) (standing : Standing) → (speeds processor time khz known).on ≡ Some standing →
-    IsOn known.on processor time ((before : Standing) × (known.on ≡ Some before) × (before.processor ≡ processor)) standing
+    IsOn known.on (λ (s : Standing). s.processor ≢ processor) processor time ((before : Standing) × (known.on ≡ Some before) × (before.processor ≡ processor)) standing
 speeds_on processor time khz known standing is = by known.on refl is
   where
     by : (on : Option Standing) → known.on ≡ on → (let after : Known = elim on [
@@ -284,7 +292,7 @@ speeds_on processor time khz known standing is = by known.on refl is
         on = Some (record standing { since = time });
         woken = known.woken;
       } else known
-    ] in after.on) ≡ Some standing → IsOn known.on processor time ((before : Standing) × (known.on ≡ Some before) × (before.processor ≡ processor)) standing
+    ] in after.on) ≡ Some standing → IsOn known.on (λ (s : Standing). s.processor ≢ processor) processor time ((before : Standing) × (known.on ≡ Some before) × (before.processor ≡ processor)) standing
     by None off some = let both : None ≡ Some standing = sym off ∙ some in cc both
     by (Some before) on some = inner (before.processor == processor) refl some
       where
@@ -292,7 +300,7 @@ speeds_on processor time khz known standing is = by known.on refl is
           jobs = changed_last (ran (record { processor = processor; from = before.since; to = time; khz = khz })) known.jobs;
           on = Some (record before { since = time });
           woken = known.woken;
-        } else known in after.on) ≡ Some standing → IsOn known.on processor time ((before : Standing) × (known.on ≡ Some before) × (before.processor ≡ processor)) standing
+        } else known in after.on) ≡ Some standing → IsOn known.on (λ (s : Standing). s.processor ≢ processor) processor time ((before : Standing) × (known.on ≡ Some before) × (before.processor ≡ processor)) standing
         inner true there given =
             let same : record before { since = time } ≡ standing = cc given in
             Fresh (before, on, eqb-true before.processor processor there) (ap (λ (s : Standing). s.processor) (sym same) ∙ eqb-true before.processor processor there)
@@ -328,28 +336,30 @@ both_ran P Q (job ∷ jobs) first second = (both_stretches P Q job.stretches fir
 abbrev EndsBy : ℕ → ℕ → Stretch → Type 0
 EndsBy processor time stretch = stretch.processor ≡ processor → stretch.to ≤ time
 
--- What holds of all tasks after some lines: `seen` tells which processors have switched since the last loss, `whole` since when nothing is lost at a
--- time, and `By` that a time isn't before these lines.
-record Shares (known : ℕ → Known) (seen : ℕ → Bool) (whole : ℕ → ℕ) (By : ℕ → Type 0) : Type 0 where
+-- What holds of all tasks, of which there are so many, after some lines: `seen` tells which processors have switched since the last loss, `whole` since
+-- when a processor's lines are whole at a time, and `By` that a time isn't before these lines.
+record Shares (bound : ℕ) (known : ℕ → Known) (seen : ℕ → Bool) (whole : ℕ → ℕ → ℕ) (By : ℕ → Type 0) : Type 0 where
+  listed : (n : ℕ) (standing : Standing) → (known n).on ≡ Some standing → n < bound
   apart : (n m : ℕ) → n ≢ m → Ran (λ s. Ran (AreApart s) (known m).jobs) (known n).jobs
   ended : (n m : ℕ) (standing : Standing) → (known n).on ≡ Some standing → Ran (EndsBy standing.processor standing.since) (known m).jobs
   alone : (n m : ℕ) (standing other : Standing) → (known n).on ≡ Some standing → (known m).on ≡ Some other → standing.processor ≡ other.processor → n ≡ m
   switched : (n : ℕ) (standing : Standing) → (known n).on ≡ Some standing → seen standing.processor ≡ true
-  unseen : (processor : ℕ) → seen processor ≡ false → (m time : ℕ) → By time → Ran (EndsBy processor (whole time)) (known m).jobs
+  unseen : (processor : ℕ) → seen processor ≡ false → (m time : ℕ) → By time → Ran (EndsBy processor (whole processor time)) (known m).jobs
   past : (m time : ℕ) → By time → Ran (λ s. s.to ≤ time) (known m).jobs
 
 -- An event at a processor: `New` are the stretches that end there, and `Comes` says who comes there, or goes on there.
-step : (known after : ℕ → Known) (seen now_seen : ℕ → Bool) (whole now_whole : ℕ → ℕ) (By now_By : ℕ → Type 0) (processor time : ℕ)
-    (New : ℕ → Stretch → Type 0) (Comes : ℕ → Type 0) → Shares known seen whole By → By time →
-    ((q : ℕ) → seen q ≡ true → now_seen q ≡ true) → ((t : ℕ) → now_whole t ≡ whole time) → ((t : ℕ) → now_By t → time ≤ t) →
+step : (bound : ℕ) (known after : ℕ → Known) (seen now_seen : ℕ → Bool) (whole now_whole : ℕ → ℕ → ℕ) (By now_By : ℕ → Type 0) (processor time : ℕ)
+    (New : ℕ → Stretch → Type 0) (Comes : ℕ → Type 0) → Shares bound known seen whole By → By time →
+    ((q : ℕ) → seen q ≡ true → now_seen q ≡ true) → ((q t : ℕ) → now_By t → (s : ℕ) × By s × (now_whole q t ≡ whole q s)) → ((t : ℕ) → now_By t → time ≤ t) →
     ((n : ℕ) (P : Stretch → Type 0) → Ran P (known n).jobs → ((x : Stretch) → New n x → P x) → Ran P (after n).jobs) →
-    ((n : ℕ) (standing : Standing) → (after n).on ≡ Some standing → IsOn (known n).on processor time (Comes n) standing) →
+    ((n : ℕ) (standing : Standing) → (after n).on ≡ Some standing → IsOn (known n).on (λ (s : Standing). s.processor ≢ processor) processor time (Comes n) standing) →
     ((n : ℕ) (x : Stretch) → New n x → (x.processor ≡ processor) × (x.to ≡ time)) →
     ((n : ℕ) (x : Stretch) → New n x → (m : ℕ) → Ran (EndsBy processor x.from) (known m).jobs) →
     ((n m : ℕ) (x y : Stretch) → New n x → New m y → n ≡ m) → ((n m : ℕ) → Comes n → Comes m → n ≡ m) →
     ((n : ℕ) (x : Stretch) → New n x → now_seen processor ≡ true) → ((n : ℕ) → Comes n → now_seen processor ≡ true) →
-    Shares after now_seen now_whole now_By
-step known after seen now_seen whole now_whole By now_By processor time New Comes old times still_seen since later jobs on ends before one_new one_comes new_seen comes_seen = record {
+    ((n : ℕ) → Comes n → n < bound) → Shares bound after now_seen now_whole now_By
+step bound known after seen now_seen whole now_whole By now_By processor time New Comes old times still_seen since later jobs on ends before one_new one_comes new_seen comes_seen comes_listed = record {
+  listed = λ n standing is. listed_there n standing (on n standing is);
   apart = λ n m other.
       weaker_stretches (λ s. Ran (AreApart s) (known m).jobs × ((y : Stretch) → New m y → AreApart s y)) (λ s. Ran (AreApart s) (after m).jobs)
       (λ s both. jobs m (AreApart s) both.0 both.1) (after n).jobs
@@ -362,8 +372,9 @@ step known after seen now_seen whole now_whole By now_By processor time New Come
   alone = λ n m standing other is also same. alone_there n m standing other same (on n standing is) (on m other also);
   switched = λ n standing is. switched_there n standing (on n standing is);
   unseen = λ q none m t by.
-      subst (λ (w : ℕ). Ran (EndsBy q w) (after m).jobs) (sym (since t))
-      (jobs m (EndsBy q (whole time)) (old.unseen q (never q none) m time times)
+      let from = since q t by in
+      subst (λ (w : ℕ). Ran (EndsBy q w) (after m).jobs) (sym from.2)
+      (jobs m (EndsBy q (whole q from.0)) (old.unseen q (never q none) m from.0 from.1)
       (λ y new here. absurd (true≢false (sym (new_seen m y new) ∙ ap now_seen (sym (ends m y new).0 ∙ here) ∙ none))));
   past = λ m t by.
       jobs m (λ s. s.to ≤ t) (weaker_stretches (λ s. s.to ≤ time) (λ s. s.to ≤ t) (λ s ended. omega (arith, ended, later t by)) (known m).jobs (old.past m time times))
@@ -373,7 +384,7 @@ step known after seen now_seen whole now_whole By now_By processor time New Come
     never : (q : ℕ) → now_seen q ≡ false → seen q ≡ false
     never q none = elim (cases_Bool (seen q)) [ inl before ↦ absurd (true≢false (sym (still_seen q before) ∙ none)) | inr off ↦ off ]
 
-    ended_by : (n m : ℕ) (standing : Standing) → IsOn (known n).on processor time (Comes n) standing → Ran (EndsBy standing.processor standing.since) (after m).jobs
+    ended_by : (n m : ℕ) (standing : Standing) → IsOn (known n).on (λ (s : Standing). s.processor ≢ processor) processor time (Comes n) standing → Ran (EndsBy standing.processor standing.since) (after m).jobs
     ended_by n m standing (Still was elsewhere) =
         jobs m (EndsBy standing.processor standing.since) (old.ended n m standing was) (λ y new here. absurd (elsewhere (sym here ∙ (ends m y new).0)))
     ended_by n m standing (Fresh how there now) =
@@ -381,16 +392,21 @@ step known after seen now_seen whole now_whole By now_By processor time New Come
         (weaker_stretches (λ s. s.to ≤ time) (EndsBy standing.processor standing.since) (λ s ended here. omega (arith, ended, now)) (known m).jobs (old.past m time times))
         (λ y new here. omega (arith, (ends m y new).1, now))
 
-    alone_there : (n m : ℕ) (standing other : Standing) → standing.processor ≡ other.processor → IsOn (known n).on processor time (Comes n) standing →
-        IsOn (known m).on processor time (Comes m) other → n ≡ m
+    alone_there : (n m : ℕ) (standing other : Standing) → standing.processor ≡ other.processor →
+        IsOn (known n).on (λ (s : Standing). s.processor ≢ processor) processor time (Comes n) standing →
+        IsOn (known m).on (λ (s : Standing). s.processor ≢ processor) processor time (Comes m) other → n ≡ m
     alone_there n m standing other same (Still was elsewhere) (Still also elsewhere_too) = old.alone n m standing other was also same
     alone_there n m standing other same (Still was elsewhere) (Fresh how there now) = absurd (elsewhere (same ∙ there))
     alone_there n m standing other same (Fresh how there now) (Still also elsewhere) = absurd (elsewhere (sym same ∙ there))
     alone_there n m standing other same (Fresh how there now) (Fresh how_too there_too now_too) = one_comes n m how how_too
 
-    switched_there : (n : ℕ) (standing : Standing) → IsOn (known n).on processor time (Comes n) standing → now_seen standing.processor ≡ true
+    switched_there : (n : ℕ) (standing : Standing) → IsOn (known n).on (λ (s : Standing). s.processor ≢ processor) processor time (Comes n) standing → now_seen standing.processor ≡ true
     switched_there n standing (Still was elsewhere) = still_seen standing.processor (old.switched n standing was)
     switched_there n standing (Fresh how there now) = ap now_seen there ∙ comes_seen n how
+
+    listed_there : (n : ℕ) (standing : Standing) → IsOn (known n).on (λ (s : Standing). s.processor ≢ processor) processor time (Comes n) standing → n < bound
+    listed_there n standing (Still was elsewhere) = old.listed n standing was
+    listed_there n standing (Fresh how there now) = comes_listed n how
 
     both_apart : (n m : ℕ) → n ≢ m → Ran (λ s. Ran (AreApart s) (known m).jobs × ((y : Stretch) → New m y → AreApart s y)) (known n).jobs
     both_apart n m other =
@@ -400,29 +416,33 @@ step known after seen now_seen whole now_whole By now_By processor time New Come
         weaker_stretches (EndsBy processor y.from) (λ s. AreApart s y) (λ s ended same. inl (ended (same ∙ (ends m y new).0))) (known n).jobs (before m y new n))))
 
 -- A line that tells of no stretch, and of nobody who comes.
-quiet : (known after : ℕ → Known) (seen : ℕ → Bool) (whole now_whole : ℕ → ℕ) (By now_By : ℕ → Type 0) (time : ℕ) → Shares known seen whole By → By time →
-    ((t : ℕ) → now_whole t ≡ whole time) → ((t : ℕ) → now_By t → time ≤ t) →
+quiet : (bound : ℕ) (known after : ℕ → Known) (seen : ℕ → Bool) (whole now_whole : ℕ → ℕ → ℕ) (By now_By : ℕ → Type 0) (time : ℕ) → Shares bound known seen whole By → By time →
+    ((q t : ℕ) → now_By t → (s : ℕ) × By s × (now_whole q t ≡ whole q s)) → ((t : ℕ) → now_By t → time ≤ t) →
     ((n : ℕ) (P : Stretch → Type 0) → Ran P (known n).jobs → Ran P (after n).jobs) → ((n : ℕ) → (after n).on ≡ (known n).on) →
-    Shares after seen now_whole now_By
-quiet known after seen whole now_whole By now_By time old times since later jobs on = record {
+    Shares bound after seen now_whole now_By
+quiet bound known after seen whole now_whole By now_By time old times since later jobs on = record {
+  listed = λ n standing is. old.listed n standing (sym (on n) ∙ is);
   apart = λ n m other.
       weaker_stretches (λ s. Ran (AreApart s) (known m).jobs) (λ s. Ran (AreApart s) (after m).jobs) (λ s all. jobs m (AreApart s) all) (after n).jobs
       (jobs n (λ s. Ran (AreApart s) (known m).jobs) (old.apart n m other));
   ended = λ n m standing is. jobs m (EndsBy standing.processor standing.since) (old.ended n m standing (sym (on n) ∙ is));
   alone = λ n m standing other is also same. old.alone n m standing other (sym (on n) ∙ is) (sym (on m) ∙ also) same;
   switched = λ n standing is. old.switched n standing (sym (on n) ∙ is);
-  unseen = λ q none m t by. subst (λ (w : ℕ). Ran (EndsBy q w) (after m).jobs) (sym (since t)) (jobs m (EndsBy q (whole time)) (old.unseen q none m time times));
+  unseen = λ q none m t by.
+      let from = since q t by in
+      subst (λ (w : ℕ). Ran (EndsBy q w) (after m).jobs) (sym from.2) (jobs m (EndsBy q (whole q from.0)) (old.unseen q none m from.0 from.1));
   past = λ m t by.
       jobs m (λ s. s.to ≤ t) (weaker_stretches (λ s. s.to ≤ time) (λ s. s.to ≤ t) (λ s ended. omega (arith, ended, later t by)) (known m).jobs (old.past m time times));
 }
 
 -- A loss: nobody is anywhere, and nothing is known before it.
-lose : (known : ℕ → Known) (seen : ℕ → Bool) (whole : ℕ → ℕ) (By now_By : ℕ → Type 0) (since : ℕ) → Shares known seen whole By → ((t : ℕ) → now_By t → By t) →
-    Shares (λ n. loses since (known n)) (λ q. false) (λ t. t) now_By
-lose known seen whole By now_By since old weaker = record {
+lose : (bound : ℕ) (known : ℕ → Known) (seen : ℕ → Bool) (whole : ℕ → ℕ → ℕ) (By now_By : ℕ → Type 0) (since : ℕ) → Shares bound known seen whole By → ((t : ℕ) → now_By t → By t) →
+    Shares bound (λ n. loses since (known n)) (λ q. false) (λ q t. t) now_By
+lose bound known seen whole By now_By since old weaker = record {
+  listed = λ n standing is. absurd (cc is);
   apart = λ n m other.
-      lost_ran (λ s. Ran (AreApart s) (lost_jobs since (known m).jobs)) since (known n).jobs
-      (weaker_stretches (λ s. Ran (AreApart s) (known m).jobs) (λ s. Ran (AreApart s) (lost_jobs since (known m).jobs)) (λ s all. lost_ran (AreApart s) since (known m).jobs all)
+      lost_ran (λ s. Ran (AreApart s) (map (lost_job since) (known m).jobs)) since (known n).jobs
+      (weaker_stretches (λ s. Ran (AreApart s) (known m).jobs) (λ s. Ran (AreApart s) (map (lost_job since) (known m).jobs)) (λ s all. lost_ran (AreApart s) since (known m).jobs all)
       (known n).jobs (old.apart n m other));
   ended = λ n m standing is. absurd (cc is);
   alone = λ n m standing other is also same. absurd (cc is);
@@ -452,59 +472,177 @@ same_number : (n m : ℕ) (number : Option ℕ) → is_number n number ≡ true 
 same_number n m None first second = cc
 same_number n m (Some other) first second = sym (eqb-true other n first) ∙ eqb-true other m second
 
-abbrev seen_after : ℕ → List Said → Happening → ℕ → Bool
-seen_after processor past happening q =
-    if is_loss happening then false
-    else (if is_switch happening then (if processor == q then true else has_switched q past) else has_switched q past)
+abbrev seen_after : List Said → Event → Happening → ℕ → Bool
+seen_after past event happening q = is_some (if is_loss happening then None
+    else (if is_switch happening && (event.processor == q) then Some event.time else last_switch q past))
 
 -- what one event is
 abbrev AfterIt : Asked → List Said → Event → Happening → Type 0
 AfterIt asked past event happening =
-    Shares (λ n. known_after asked n past) (λ q. has_switched q past) (λ t. whole_since t past) (λ t. AreBy t past) →
+    Shares (length asked.tasks) (all_known asked past) (λ q. has_switched q past) (λ q t. lines_since q t past) (λ t. AreBy t past) →
     (is_loss happening ≡ false → AreBy event.time past) →
-    Shares (λ n. after_event asked n past event happening (known_after asked n past)) (seen_after event.processor past happening)
-    (λ t. if is_loss happening then t else whole_since event.time past) (λ t. (is_loss happening ≡ false → event.time ≤ t) × AreBy t past)
+    Shares (length asked.tasks) (λ n. after_event asked n past event happening (all_known asked past)) (seen_after past event happening)
+    (λ q t. if is_loss happening then t else lines_since q (if event.processor == q then event.time else t) past)
+    (λ t. (is_loss happening ≡ false → event.time ≤ t) × AreBy t past)
 
-switched_now : (b : Bool) (before : Bool) → before ≡ true → (if b then true else before) ≡ true
-switched_now true before is = refl
-switched_now false before is = is
+-- Behind an event a processor's lines are whole since when they were before it, or at it.
+whole_at : (past : List Said) (event : Event) → AreBy event.time past → (q t : ℕ) → ((false ≡ false → event.time ≤ t) × AreBy t past) →
+    (s : ℕ) × AreBy s past × (lines_since q (if event.processor == q then event.time else t) past ≡ lines_since q s past)
+whole_at past event order q t by = (if event.processor == q then event.time else t, either (event.processor == q), refl)
+  where
+    either : (b : Bool) → AreBy (if b then event.time else t) past
+    either true = order
+    either false = by.1
 
-it_switched : (processor : ℕ) (before : Bool) → (if processor == processor then true else before) ≡ true
-it_switched processor before = rw (eq-eqb processor processor refl) refl
+switched_now : (b : Bool) (time : ℕ) (before : Option ℕ) → is_some before ≡ true → is_some (if b then Some time else before) ≡ true
+switched_now true time before is = refl
+switched_now false time before is = is
+
+it_switched : (processor time : ℕ) (before : Option ℕ) → is_some (if processor == processor then Some time else before) ≡ true
+it_switched processor time before = rw (eq-eqb processor processor refl) refl
+
+never_switched : (before : Option ℕ) → is_none before ≡ true → is_some before ≡ false
+never_switched None first = refl
+never_switched (Some time) first = cc
+
+-- # Switches that are missing
+
+found_within : {A : Type 0} (test : A → Bool) (xs : List A) (n : ℕ) → position test xs ≡ Some n → n < length xs
+found_within test xs n is = by (nat_lt (position_or_len test xs) (length xs)) refl is
+  where
+    by : (b : Bool) → nat_lt (position_or_len test xs) (length xs) ≡ b → cond b (Some (position_or_len test xs)) None ≡ Some n → n < length xs
+    by true less some =
+        let same : position_or_len test xs ≡ n = cc some in
+        let within : position_or_len test xs < length xs = ltb-true (position_or_len test xs) (length xs) less in omega (arith, same, within)
+    by false less some = absurd (cc some)
+
+-- a task that a thread is, is one of them
+is_within : (asked : Asked) (number : ℕ) (thread : Thread) → is_of asked number thread ≡ true → number < length asked.tasks
+is_within asked number thread is =
+    first (position (λ (task : Task). is_numbered thread.pid task.thread) asked.tasks) refl is
+  where
+    named : (found : Option ℕ) → position (λ (task : Task). is_named thread.name task.thread) asked.tasks ≡ found → is_number number found ≡ true → number < length asked.tasks
+    named None which mine = cc mine
+    named (Some other) which mine =
+        let same : other ≡ number = eqb-true other number mine in
+        let within : other < length asked.tasks = found_within (λ (task : Task). is_named thread.name task.thread) asked.tasks other which in omega (arith, same, within)
+
+    first : (found : Option ℕ) → position (λ (task : Task). is_numbered thread.pid task.thread) asked.tasks ≡ found →
+        is_number number (or_else found (position (λ (task : Task). is_named thread.name task.thread) asked.tasks)) ≡ true → number < length asked.tasks
+    first None which mine = named (position (λ (task : Task). is_named thread.name task.thread) asked.tasks) refl mine
+    first (Some other) which mine =
+        let same : other ≡ number = eqb-true other number mine in
+        let within : other < length asked.tasks = found_within (λ (task : Task). is_numbered thread.pid task.thread) asked.tasks other which in omega (arith, same, within)
+
+neither : (one other : Option ℕ) → earlier one other ≡ None → (one ≡ None) × (other ≡ None)
+neither None other none = (refl, none)
+neither (Some time) None none = cc none
+neither (Some time) (Some later) none = cc none
+
+-- where none is missing of all, none is of each
+none_missing : (asked : Asked) (previous next : Thread) (leaving : Leaving) (known : ℕ → Known) (start : ℕ) (tasks : List Task) (number : ℕ) →
+    missing_of asked previous next leaving known start tasks ≡ None → start ≤ number → number < start + length tasks →
+    missing_since (not asked.begin_at_run) (is_of asked number previous) (is_of asked number next) leaving (known number) ≡ None
+none_missing asked previous next leaving known start [] number none from within = absurd (omega (arith, from, within))
+none_missing asked previous next leaving known start (task ∷ tasks) number none from within =
+    let parts = neither (missing_since (not asked.begin_at_run) (is_of asked start previous) (is_of asked start next) leaving (known start))
+    (missing_of asked previous next leaving known (start + 1) tasks) none in
+    elim (cases_lt start number) [
+      | inl less ↦ none_missing asked previous next leaving known (start + 1) tasks number parts.1 (omega (arith, less)) (omega (arith, within))
+      | inr more ↦
+          let same : start ≡ number = omega (arith, from, more) in
+          subst (λ (n : ℕ). missing_since (not asked.begin_at_run) (is_of asked n previous) (is_of asked n next) leaving (known n) ≡ None) same parts.0
+    ]
+
+-- who stands there, where no switch of it is missing
+not_displaced : (wakes left came : Bool) (leaving : Leaving) (known : Known) (standing : Standing) → missing_since wakes left came leaving known ≡ None → known.on ≡ Some standing →
+    is_displaced left came leaving.processor standing ≡ false
+not_displaced wakes left came leaving known standing none on = by (is_displaced left came leaving.processor standing) (subst None_of on none)
+  where
+    None_of : Option Standing → Type 0
+    None_of on = ◌≡◌ {A = Option ℕ} (elim on [
+      | None ↦ if left && not (is_there wakes leaving known) then Some (last_told leaving) else None
+      | Some standing ↦ if is_displaced left came leaving.processor standing then Some (min standing.came (last_told leaving)) else None
+    ]) None
+
+    by : (b : Bool) → ◌≡◌ {A = Option ℕ} (if b then Some (min standing.came (last_told leaving)) else None) None → b ≡ false
+    by true is = cc is
+    by false is = refl
+
+-- Who leaves a processor stands there, and who doesn't stands elsewhere.
+stood_there : (left came : Bool) (processor : ℕ) (standing : Standing) → is_displaced left came processor standing ≡ false → left ≡ true → standing.processor ≡ processor
+stood_there left came processor standing none mine = by (standing.processor == processor) refl (subst (λ (l : Bool). is_displaced l came processor standing ≡ false) mine none)
+  where
+    by : (b : Bool) → (standing.processor == processor) ≡ b → (if b then not true else (true || came)) ≡ false → standing.processor ≡ processor
+    by true there is = eqb-true standing.processor processor there
+    by false there is = cc is
+
+stays_away : (left came : Bool) (processor : ℕ) (standing : Standing) → is_displaced left came processor standing ≡ false → left ≡ false → standing.processor ≢ processor
+stays_away left came processor standing none other here =
+    by (standing.processor == processor) (eq-eqb standing.processor processor here) (subst (λ (l : Bool). is_displaced l came processor standing ≡ false) other none)
+  where
+    by : (b : Bool) → b ≡ true → (if b then not false else (false || came)) ≡ false → ⊥
+    by true there is = cc is
+    by false there is = cc there
+
+-- # Events
 
 -- a task's stretch that ends at a switch
-abbrev NewAtSwitch : Asked → List Said → Event → Thread → ℕ → Stretch → Type 0
-NewAtSwitch asked past event previous n x = (is_of asked n previous ≡ true) × IsLeft (known_after asked n past) (leaving_at asked past event) x
+record IsNewAt (asked : Asked) (past : List Said) (event : Event) (previous next : Thread) (n : ℕ) (x : Stretch) : Type 0 where
+  mine : is_of asked n previous ≡ true
+  none : missing_of asked previous next (leaving_at asked past event previous) (all_known asked past) 0 asked.tasks ≡ None
+  left : IsLeft (known_after asked n past) (leaving_at asked past event previous) x
 
 pub left_at : (known : Known) (leaving : Leaving) (x : Stretch) → IsLeft known leaving x → (x.processor ≡ leaving.processor) × (x.to ≡ leaving.time)
-left_at known leaving x (Came standing on there is) = (ap (λ (s : Stretch). s.processor) is, ap (λ (s : Stretch). s.to) is)
+left_at known leaving x (Came standing on is) = (ap (λ (s : Stretch). s.processor) is, ap (λ (s : Stretch). s.to) is)
 left_at known leaving x (Unseen first is) = (ap (λ (s : Stretch). s.processor) is, ap (λ (s : Stretch). s.to) is)
 
 switched : (asked : Asked) (past : List Said) (event : Event) (previous : Thread) (state : State) (next : Thread) → AfterIt asked past event (Switch previous state next)
 switched asked past event previous state next old order =
-    step (λ n. known_after asked n past) (λ n. after_event asked n past event (Switch previous state next) (known_after asked n past)) (λ q. has_switched q past)
-    (seen_after event.processor past (Switch previous state next)) (λ t. whole_since t past) (λ t. whole_since event.time past) (λ t. AreBy t past)
-    (λ t. (false ≡ false → event.time ≤ t) × AreBy t past) event.processor event.time (NewAtSwitch asked past event previous) (λ n. is_of asked n next ≡ true) old (order refl)
-    (λ q is. switched_now (event.processor == q) (has_switched q past) is) (λ t. refl) (λ t by. by.0 refl)
+    step (length asked.tasks) known (λ n. after_event asked n past event (Switch previous state next) known) (λ q. has_switched q past)
+    (seen_after past event (Switch previous state next)) (λ q t. lines_since q t past) (λ q t. lines_since q (if event.processor == q then event.time else t) past)
+    (λ t. AreBy t past) (λ t. (false ≡ false → event.time ≤ t) × AreBy t past) event.processor event.time (IsNewAt asked past event previous next) (λ n. is_of asked n next ≡ true)
+    old (order refl) (λ q is. switched_now (event.processor == q) event.time (last_switch q past) is) (whole_at past event (order refl)) (λ t by. by.0 refl)
     (λ n P all new.
-    switch_ran P (task_at asked n).apart (not asked.begin_at_run) (is_of asked n previous) (is_of asked n next) state (leaving_at asked past event) (known_after asked n past) all
-    (λ mine x left. new x (mine, left)))
-    (λ n standing is. switch_on (task_at asked n).apart (not asked.begin_at_run) (is_of asked n previous) (is_of asked n next) state (leaving_at asked past event) (known_after asked n past) standing is)
-    (λ n x new. left_at (known_after asked n past) (leaving_at asked past event) x new.1)
-    (λ n x new m. ended_before n x new.1 m)
-    (λ n m x y new also. same_number n m (task_of asked.tasks previous) new.0 also.0)
+    switch_ran P (pace_of (task_at asked n)) (not asked.begin_at_run) (is_of asked n previous) (is_of asked n next) state leaving since (known n) all
+    (λ mine none x left. new x (record { mine = mine; none = none; left = left })))
+    (λ n standing is.
+    switch_on (λ (s : Standing). s.processor ≢ event.processor) (pace_of (task_at asked n)) (not asked.begin_at_run) (is_of asked n previous) (is_of asked n next) state leaving since
+    (known n) (λ one on off none here. stays_away (is_of asked n previous) (is_of asked n next) event.processor one (placed n one (none here) on) off here) standing is)
+    (λ n x new. left_at (known n) leaving x new.left)
+    (λ n x new m. ended_before n x new new.left m)
+    (λ n m x y new also. same_number n m (task_of asked.tasks previous) new.mine also.mine)
     (λ n m comes also. same_number n m (task_of asked.tasks next) comes also)
-    (λ n x new. it_switched event.processor (has_switched event.processor past))
-    (λ n comes. it_switched event.processor (has_switched event.processor past))
+    (λ n x new. it_switched event.processor event.time (last_switch event.processor past))
+    (λ n comes. it_switched event.processor event.time (last_switch event.processor past))
+    (λ n comes. is_within asked n next comes)
   where
-    ended_before : (n : ℕ) (x : Stretch) → IsLeft (known_after asked n past) (leaving_at asked past event) x → (m : ℕ) → Ran (EndsBy event.processor x.from) (known_after asked m past).jobs
-    ended_before n x (Came standing on there is) m =
+    known : ℕ → Known
+    known = all_known asked past
+
+    leaving : Leaving
+    leaving = leaving_at asked past event previous
+
+    since : Option ℕ
+    since = missing_of asked previous next leaving known 0 asked.tasks
+
+    placed : (n : ℕ) (standing : Standing) → since ≡ None → (known n).on ≡ Some standing →
+        is_displaced (is_of asked n previous) (is_of asked n next) event.processor standing ≡ false
+    placed n standing none on =
+        not_displaced (not asked.begin_at_run) (is_of asked n previous) (is_of asked n next) leaving (known n) standing
+        (none_missing asked previous next leaving known 0 asked.tasks n none (omega arith) (let within : n < length asked.tasks = old.listed n standing on in omega (arith, within))) on
+
+    ended_before : (n : ℕ) (x : Stretch) → IsNewAt asked past event previous next n x → IsLeft (known n) leaving x → (m : ℕ) → Ran (EndsBy event.processor x.from) (known m).jobs
+    ended_before n x new (Came standing on is) m =
         weaker_stretches (EndsBy standing.processor standing.since) (EndsBy event.processor x.from)
-        (λ s ended here. let from : x.from ≡ standing.since = ap (λ (s : Stretch). s.from) is in omega (arith, from, ended (here ∙ sym there))) (known_after asked m past).jobs (old.ended n m standing on)
-    ended_before n x (Unseen first is) m =
-        weaker_stretches (EndsBy event.processor (whole_since event.time past)) (EndsBy event.processor x.from)
-        (λ s ended here. let from : x.from ≡ whole_since event.time past = ap (λ (s : Stretch). s.from) is in omega (arith, from, ended here)) (known_after asked m past).jobs
-        (old.unseen event.processor first m event.time (order refl))
+        (λ s ended here.
+        let there : standing.processor ≡ event.processor =
+        stood_there (is_of asked n previous) (is_of asked n next) event.processor standing (placed n standing new.none on) new.mine in
+        let from : x.from ≡ standing.since = ap (λ (s : Stretch). s.from) is in omega (arith, from, ended (here ∙ sym there))) (known m).jobs (old.ended n m standing on)
+    ended_before n x new (Unseen first is) m =
+        weaker_stretches (EndsBy event.processor (lines_since event.processor event.time past)) (EndsBy event.processor x.from)
+        (λ s ended here. let from : x.from ≡ lines_since event.processor event.time past = ap (λ (s : Stretch). s.from) is in omega (arith, from, ended here)) (known m).jobs
+        (old.unseen event.processor (never_switched (last_switch event.processor past) first) m event.time (order refl))
 
 -- a task's stretch that ends where its processor's speed changes
 record IsCut (known : Known) (processor time : ℕ) (khz : Option ℕ) (x : Stretch) : Type 0 where
@@ -515,57 +653,63 @@ record IsCut (known : Known) (processor time : ℕ) (khz : Option ℕ) (x : Stre
 
 changed : (asked : Asked) (past : List Said) (event : Event) (processor khz : ℕ) → AfterIt asked past event (Speed processor khz)
 changed asked past event processor khz old order =
+    let known : ℕ → Known = all_known asked past in
     let told : Option ℕ = speed_after asked.start processor past in
-    let Goes : ℕ → Type 0 = λ n. (before : Standing) × ((known_after asked n past).on ≡ Some before) × (before.processor ≡ processor) in
-    step (λ n. known_after asked n past) (λ n. after_event asked n past event (Speed processor khz) (known_after asked n past)) (λ q. has_switched q past)
-    (λ q. has_switched q past) (λ t. whole_since t past) (λ t. whole_since event.time past) (λ t. AreBy t past)
-    (λ t. (false ≡ false → event.time ≤ t) × AreBy t past) processor event.time (λ n x. IsCut (known_after asked n past) processor event.time told x) Goes old (order refl)
-    (λ q is. is) (λ t. refl) (λ t by. by.0 refl)
+    let Goes : ℕ → Type 0 = λ n. (before : Standing) × ((known n).on ≡ Some before) × (before.processor ≡ processor) in
+    step (length asked.tasks) known (λ n. after_event asked n past event (Speed processor khz) known) (λ q. has_switched q past)
+    (λ q. has_switched q past) (λ q t. lines_since q t past) (λ q t. lines_since q (if event.processor == q then event.time else t) past) (λ t. AreBy t past)
+    (λ t. (false ≡ false → event.time ≤ t) × AreBy t past) processor event.time (λ n x. IsCut (known n) processor event.time told x) Goes old (order refl)
+    (λ q is. is) (whole_at past event (order refl)) (λ t by. by.0 refl)
     (λ n P all new.
-    speeds_ran P processor event.time told (known_after asked n past) all
+    speeds_ran P processor event.time told (known n) all
     (λ standing on there. new (before_change processor event.time told standing) (record { standing = standing; on = on; there = there; is = refl })))
-    (λ n standing is. speeds_on processor event.time told (known_after asked n past) standing is)
+    (λ n standing is. speeds_on processor event.time told (known n) standing is)
     (λ n x new. (ap (λ (s : Stretch). s.processor) new.is, ap (λ (s : Stretch). s.to) new.is))
     (λ n x new m.
     weaker_stretches (EndsBy new.standing.processor new.standing.since) (EndsBy processor x.from)
-    (λ s ended here. let from : x.from ≡ new.standing.since = ap (λ (s : Stretch). s.from) new.is in omega (arith, from, ended (here ∙ sym new.there))) (known_after asked m past).jobs
+    (λ s ended here. let from : x.from ≡ new.standing.since = ap (λ (s : Stretch). s.from) new.is in omega (arith, from, ended (here ∙ sym new.there))) (known m).jobs
     (old.ended n m new.standing new.on))
     (λ n m x y new also. old.alone n m new.standing also.standing new.on also.on (new.there ∙ sym also.there))
     (λ n m goes also. old.alone n m goes.0 also.0 goes.1 also.1 (goes.2 ∙ sym also.2))
     (λ n x new. ap (λ (q : ℕ). has_switched q past) (sym new.there) ∙ old.switched n new.standing new.on)
     (λ n goes. ap (λ (q : ℕ). has_switched q past) (sym goes.2) ∙ old.switched n goes.0 goes.1)
+    (λ n goes. old.listed n goes.0 goes.1)
 
-pub woken_known : (P : Stretch → Type 0) (b : Bool) (apart : ℕ) (starts : Bool) (time : ℕ) (known : Known) → Ran P known.jobs →
-    Ran P (if b then wakes_up apart starts time known else known).jobs
-woken_known P true apart starts time known all = woken_ran P apart (woken_at starts time known.woken.started) known.woken.came known.jobs all
-woken_known P false apart starts time known all = all
+pub woken_known : (P : Stretch → Type 0) (b : Bool) (pace : Pace) (starts : Bool) (time : ℕ) (known : Known) → Ran P known.jobs →
+    Ran P (if b then wakes_up pace starts time known else known).jobs
+woken_known P true pace starts time known all = woken_ran P pace (woken_at starts time known.woken.started) known.woken.came known.jobs all
+woken_known P false pace starts time known all = all
 
-pub woken_on : (b : Bool) (apart : ℕ) (starts : Bool) (time : ℕ) (known : Known) → (if b then wakes_up apart starts time known else known).on ≡ known.on
-woken_on true apart starts time known = refl
-woken_on false apart starts time known = refl
+pub woken_on : (b : Bool) (pace : Pace) (starts : Bool) (time : ℕ) (known : Known) → (if b then wakes_up pace starts time known else known).on ≡ known.on
+woken_on true pace starts time known = refl
+woken_on false pace starts time known = refl
 
 after : (asked : Asked) (past : List Said) (event : Event) (happening : Happening) → AfterIt asked past event happening
 after asked past event (Switch previous state next) = switched asked past event previous state next
 after asked past event (Speed processor khz) = changed asked past event processor khz
 after asked past event (WakeUp thread starts) = λ old order.
-    quiet (λ n. known_after asked n past) (λ n. after_event asked n past event (WakeUp thread starts) (known_after asked n past)) (λ q. has_switched q past) (λ t. whole_since t past)
-    (λ t. whole_since event.time past) (λ t. AreBy t past) (λ t. (false ≡ false → event.time ≤ t) × AreBy t past) event.time old (order refl) (λ t. refl) (λ t by. by.0 refl)
-    (λ n P all. woken_known P (is_of asked n thread && not asked.begin_at_run) (task_at asked n).apart starts event.time (known_after asked n past) all)
-    (λ n. woken_on (is_of asked n thread && not asked.begin_at_run) (task_at asked n).apart starts event.time (known_after asked n past))
+    quiet (length asked.tasks) (all_known asked past) (λ n. after_event asked n past event (WakeUp thread starts) (all_known asked past)) (λ q. has_switched q past)
+    (λ q t. lines_since q t past) (λ q t. lines_since q (if event.processor == q then event.time else t) past) (λ t. AreBy t past)
+    (λ t. (false ≡ false → event.time ≤ t) × AreBy t past) event.time old (order refl) (whole_at past event (order refl)) (λ t by. by.0 refl)
+    (λ n P all. woken_known P (is_of asked n thread && not asked.begin_at_run) (pace_of (task_at asked n)) starts event.time (known_after asked n past) all)
+    (λ n. woken_on (is_of asked n thread && not asked.begin_at_run) (pace_of (task_at asked n)) starts event.time (known_after asked n past))
 after asked past event Marker = λ old order.
-    quiet (λ n. known_after asked n past) (λ n. known_after asked n past) (λ q. has_switched q past) (λ t. whole_since t past) (λ t. whole_since event.time past) (λ t. AreBy t past)
-    (λ t. (false ≡ false → event.time ≤ t) × AreBy t past) event.time old (order refl) (λ t. refl) (λ t by. by.0 refl) (λ n P all. all) (λ n. refl)
+    quiet (length asked.tasks) (all_known asked past) (all_known asked past) (λ q. has_switched q past)
+    (λ q t. lines_since q t past) (λ q t. lines_since q (if event.processor == q then event.time else t) past) (λ t. AreBy t past)
+    (λ t. (false ≡ false → event.time ≤ t) × AreBy t past) event.time old (order refl) (whole_at past event (order refl)) (λ t by. by.0 refl) (λ n P all. all) (λ n. refl)
 after asked past event Other = λ old order.
-    quiet (λ n. known_after asked n past) (λ n. known_after asked n past) (λ q. has_switched q past) (λ t. whole_since t past) (λ t. whole_since event.time past) (λ t. AreBy t past)
-    (λ t. (false ≡ false → event.time ≤ t) × AreBy t past) event.time old (order refl) (λ t. refl) (λ t by. by.0 refl) (λ n P all. all) (λ n. refl)
+    quiet (length asked.tasks) (all_known asked past) (all_known asked past) (λ q. has_switched q past)
+    (λ q t. lines_since q t past) (λ q t. lines_since q (if event.processor == q then event.time else t) past) (λ t. AreBy t past)
+    (λ t. (false ≡ false → event.time ≤ t) × AreBy t past) event.time old (order refl) (whole_at past event (order refl)) (λ t by. by.0 refl) (λ n P all. all) (λ n. refl)
 after asked past event Loss = λ old order.
-    lose (λ n. known_after asked n past) (λ q. has_switched q past) (λ t. whole_since t past) (λ t. AreBy t past) (λ t. (true ≡ false → event.time ≤ t) × AreBy t past)
-    (lost_since event.processor since.ItsLastLine past) old (λ t by. by.1)
+    lose (length asked.tasks) (all_known asked past) (λ q. has_switched q past) (λ q t. lines_since q t past) (λ t. AreBy t past)
+    (λ t. (true ≡ false → event.time ≤ t) × AreBy t past) (lost_since event.processor since.ItsLastLine past) old (λ t by. by.1)
 
 -- so it is after all lines that are in order
 shares : (asked : Asked) (past : List Said) → AreInOrder past →
-    Shares (λ n. known_after asked n past) (λ q. has_switched q past) (λ t. whole_since t past) (λ t. AreBy t past)
+    Shares (length asked.tasks) (all_known asked past) (λ q. has_switched q past) (λ q t. lines_since q t past) (λ t. AreBy t past)
 shares asked [] order = record {
+  listed = λ n standing is. absurd (cc is);
   apart = λ n m other. tt;
   ended = λ n m standing is. tt;
   alone = λ n m standing other is also same. absurd (cc is);
@@ -575,7 +719,7 @@ shares asked [] order = record {
 }
 shares asked (Stamped event ∷ past) order = after asked past event event.happening (shares asked past order.1) order.0
 shares asked (Lost processor reach ∷ past) order =
-    lose (λ n. known_after asked n past) (λ q. has_switched q past) (λ t. whole_since t past) (λ t. AreBy t past) (λ t. AreBy t past)
+    lose (length asked.tasks) (all_known asked past) (λ q. has_switched q past) (λ q t. lines_since q t past) (λ t. AreBy t past) (λ t. AreBy t past)
     (lost_since processor reach past) (shares asked past order) (λ t by. by)
 shares asked (Nothing ∷ past) order = shares asked past order
 
@@ -596,7 +740,7 @@ stamp_goes_on : (asked : Asked) (past : List Said) (event : Event) → said_faul
 stamp_goes_on asked past event none before =
     let stamped = or_none (stamped_fault asked past event) (length_fault asked (Stamped event ∷ past)) none in
     let placed = or_none (place_fault event) (behind_fault asked past event) stamped.0 in
-    let behind = or_none (threads_fault asked past event) (if is_torn asked past event then Some causes.EventsLost else None) placed.1 in
+    let behind = or_none (threads_fault asked past event) (loss_fault asked past event) placed.1 in
     let at : event_fault asked past event ≡ None =
     subst (λ (b : Bool). (if b then event_fault asked past event else stayed_fault asked past event) ≡ None) before behind.0 in
     not_back (nat_lt event.time (last_time past)) event.time (last_time past) (happening_fault asked (up_to asked.to past) event.happening) refl at
@@ -755,7 +899,7 @@ closed_apart : (asked : Asked) (past : List Said) (n m : ℕ) → first_fault as
     Ran (λ s. Ran (AreApart s) (closed asked past (known_after asked m (up_to asked.to past)))) (closed asked past (known_after asked n (up_to asked.to past)))
 closed_apart asked past n m none other =
     let counting : List Said = up_to asked.to past in
-    let known : ℕ → Known = λ k. known_after asked k counting in
+    let known : ℕ → Known = all_known asked counting in
     let old = shares asked counting (counting_in_order asked.to past (lines_go_on asked past none)) in
     weaker_stretches (λ s. Ran (AreApart s) (known m).jobs × ((standing : Standing) → (known m).on ≡ Some standing → AreApart s (closing asked past standing)))
     (λ s. Ran (AreApart s) (closed asked past (known m))) (λ s both. closed_ran (AreApart s) asked past (known m) both.0 both.1) (closed asked past (known n))

@@ -1,15 +1,14 @@
 -- Each job ran where a line of the trace tells of the processor.
-use Rattle.yds_model.proofs.Common.{◌≡◌, ◌∙◌, ℕ, ◌+◌, ◌&&◌, true, sym, ◌<◌, ◌≤◌, max, List, [], ◌∷◌, map, Bool, not, if◌then◌else◌, Option, Some, None, arith, All-from_recursion}
+use Rattle.yds_model.proofs.Common.{◌≡◌, ◌≢◌, ◌∙◌, ℕ, ◌+◌, ◌&&◌, true, sym, ◌<◌, ◌≤◌, max, List, [], ◌∷◌, map, Bool, not, if◌then◌else◌, Option, Some, None, arith, All-from_recursion}
 use Rattle.std.specs.List.{AllByRecursion, enumerate_from}
 use Rattle.yds_kernel.specs.Event.{Happening, Switch, WakeUp, Speed, Loss, Marker, Other, Event, Said, Stamped, Lost, Nothing}
 use Rattle.yds_trace.specs.declared.job.Stretch.{Stretch}
 use Rattle.yds_trace.specs.declared.job.Standing.{Standing}
 use Rattle.yds_trace.specs.declared.job.Leaving.{Leaving}
-use Rattle.yds_trace.specs.Asked.{Task, Asked, task_at, is_of}
-use Rattle.yds_trace.specs.Past.{counts, is_first_switch, stayed, up_to_time, up_to, speed_after}
-use Rattle.yds_trace.specs.Jobs.{Job, Known, leaving_at, after_event, known_after}
+use Rattle.yds_trace.specs.Asked.{Task, Asked, task_at, pace_of, is_of}
+use Rattle.yds_trace.specs.Past.{next_processor, processor_count, counts, is_first_switch, stayed, up_to_time, up_to, speed_after}
+use Rattle.yds_trace.specs.Jobs.{Job, Known, leaving_at, missing_of, after_event, all_known, known_after}
 use Rattle.yds_trace.specs.Document.{Judged, closed, jobs_of, shares_of, began_before, judged, judged_of, judged_from, all_judged}
-use Rattle.yds_trace.specs.Parts.{next_processor, processor_count}
 use Rattle.yds_trace_laws.specs.Processors.{RanWhereTold, EachRanWhereTold}
 use Rattle.yds_trace_laws.proofs.Ordered.{append-all, either_all, in_order-all}
 use Rattle.yds_trace_laws.proofs.Runs.{all_weaker, reverse-all}
@@ -35,34 +34,42 @@ left_under : (bound : ℕ) (known : Known) (leaving : Leaving) (stretch : Stretc
 left_under bound known leaving stretch here left =
     let there : stretch.processor ≡ leaving.processor = (left_at known leaving stretch left).0 in omega (arith, there, here)
 
-on_under : (bound : ℕ) (before : Option Standing) (processor time : ℕ) (fresh : Type 0) (standing : Standing) →
-    ((one : Standing) → before ≡ Some one → one.processor < bound) → (fresh → processor < bound) → IsOn before processor time fresh standing → standing.processor < bound
-on_under bound before processor time fresh standing old new (Still on elsewhere) = old standing on
-on_under bound before processor time fresh standing old new (Fresh how there now) = let here : processor < bound = new how in omega (arith, here, there)
+on_under : (bound : ℕ) (before : Option Standing) (away : Standing → Type 0) (processor time : ℕ) (fresh : Type 0) (standing : Standing) →
+    ((one : Standing) → before ≡ Some one → one.processor < bound) → (fresh → processor < bound) → IsOn before away processor time fresh standing → standing.processor < bound
+on_under bound before away processor time fresh standing old new (Still on elsewhere) = old standing on
+on_under bound before away processor time fresh standing old new (Fresh how there now) = let here : processor < bound = new how in omega (arith, here, there)
 
-event_under : (bound : ℕ) (asked : Asked) (number : ℕ) (past : List Said) (event : Event) (happening : Happening) (known : Known) → event.processor < bound →
-    RunsUnder bound known → RunsUnder bound (after_event asked number past event happening known)
+event_under : (bound : ℕ) (asked : Asked) (number : ℕ) (past : List Said) (event : Event) (happening : Happening) (known : ℕ → Known) → event.processor < bound →
+    RunsUnder bound (known number) → RunsUnder bound (after_event asked number past event happening known)
 event_under bound asked number past event (Switch previous state next) known here is = record {
-  ran = switch_ran (IsUnder bound) (task_at asked number).apart (not asked.begin_at_run) (is_of asked number previous) (is_of asked number next) state
-      (leaving_at asked past event) known is.ran (λ left stretch new. left_under bound known (leaving_at asked past event) stretch here new);
+  ran = switch_ran (IsUnder bound) (pace_of (task_at asked number)) (not asked.begin_at_run) (is_of asked number previous) (is_of asked number next) state leaving since
+      (known number) is.ran (λ left none stretch new. left_under bound (known number) leaving stretch here new);
   on = λ standing now.
-      on_under bound known.on event.processor event.time (is_of asked number next ≡ true) standing is.on (λ came. here)
-      (switch_on (task_at asked number).apart (not asked.begin_at_run) (is_of asked number previous) (is_of asked number next) state (leaving_at asked past event) known standing now);
+      on_under bound (known number).on (λ one. Unit {0}) event.processor event.time (is_of asked number next ≡ true) standing is.on (λ came. here)
+      (switch_on (λ one. Unit {0}) (pace_of (task_at asked number)) (not asked.begin_at_run) (is_of asked number previous) (is_of asked number next) state leaving since
+      (known number) (λ one on off none. tt) standing now);
 }
+  where
+    leaving : Leaving
+    leaving = leaving_at asked past event previous
+
+    since : Option ℕ
+    since = missing_of asked previous next leaving known 0 asked.tasks
 event_under bound asked number past event (WakeUp thread starts) known here is = record {
-  ran = woken_known (IsUnder bound) (is_of asked number thread && not asked.begin_at_run) (task_at asked number).apart starts event.time known is.ran;
+  ran = woken_known (IsUnder bound) (is_of asked number thread && not asked.begin_at_run) (pace_of (task_at asked number)) starts event.time (known number) is.ran;
   on = λ standing now.
-      is.on standing (sym (woken_on (is_of asked number thread && not asked.begin_at_run) (task_at asked number).apart starts event.time known) ∙ now);
+      is.on standing (sym (woken_on (is_of asked number thread && not asked.begin_at_run) (pace_of (task_at asked number)) starts event.time (known number)) ∙ now);
 }
 event_under bound asked number past event (Speed processor khz) known here is = record {
-  ran = speeds_ran (IsUnder bound) processor event.time (speed_after asked.start processor past) known is.ran
+  ran = speeds_ran (IsUnder bound) processor event.time (speed_after asked.start processor past) (known number) is.ran
       (λ standing on there. let old : standing.processor < bound = is.on standing on in omega (arith, old, there));
   on = λ standing now.
-      on_under bound known.on processor event.time ((before : Standing) × (known.on ≡ Some before) × (before.processor ≡ processor)) standing is.on
+      on_under bound (known number).on (λ (one : Standing). one.processor ≢ processor) processor event.time
+      ((before : Standing) × ((known number).on ≡ Some before) × (before.processor ≡ processor)) standing is.on
       (λ goes. let old : goes.0.processor < bound = is.on goes.0 goes.1 in omega (arith, old, goes.2))
-      (speeds_on processor event.time (speed_after asked.start processor past) known standing now);
+      (speeds_on processor event.time (speed_after asked.start processor past) (known number) standing now);
 }
-event_under bound asked number past event Loss known here is = record { ran = lost_ran (IsUnder bound) _ known.jobs is.ran; on = λ standing now. absurd (cc now) }
+event_under bound asked number past event Loss known here is = record { ran = lost_ran (IsUnder bound) _ (known number).jobs is.ran; on = λ standing now. absurd (cc now) }
 event_under bound asked number past event Marker known here is = is
 event_under bound asked number past event Other known here is = is
 
@@ -70,7 +77,7 @@ known_under : (bound : ℕ) (asked : Asked) (number : ℕ) (past : List Said) �
 known_under bound asked number [] tell = record { ran = tt; on = λ standing now. absurd (cc now) }
 known_under bound asked number (Stamped event ∷ past) tell =
     let here : event.processor < bound = omega (arith, tell.0) in
-    event_under bound asked number past event event.happening (known_after asked number past) here (known_under bound asked number past tell.1)
+    event_under bound asked number past event event.happening (all_known asked past) here (known_under bound asked number past tell.1)
 known_under bound asked number (Lost processor reach ∷ past) tell = record {
   ran = lost_ran (IsUnder bound) _ (known_after asked number past).jobs (known_under bound asked number past tell.1).ran;
   on = λ standing now. absurd (cc now);

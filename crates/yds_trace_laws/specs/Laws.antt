@@ -39,10 +39,11 @@ abbrev pub IsReached : Option ℕ → Type 0
 IsReached None = ⊤
 IsReached (Some to) = to ≤ MAX_TIME
 
--- Each job of a trace without a fault begins by the greatest time that a trace may have. So its deadline fits 64 bits.
+-- Each job of a trace without a fault begins by the greatest time that a trace may have, and its deadline counts from no later one. So that fits
+-- 64 bits.
 abbrev pub BeginsAreInTime : Type 0
 BeginsAreInTime = (asked : Asked) (past : List Said) (number : ℕ) → IsReached asked.to → first_fault asked past ≡ None →
-    All (λ job. job.begin ≤ MAX_TIME) (jobs_of asked past number)
+    All (λ job. (job.begin ≤ MAX_TIME) × (job.due_from ≤ MAX_TIME)) (jobs_of asked past number)
 
 -- None that stands as it is begins before the trace's first line.
 abbrev pub NoneBeginsBefore : Type 0

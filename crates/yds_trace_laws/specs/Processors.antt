@@ -8,7 +8,8 @@ use Rattle.yds_trace.specs.declared.job.Stretch.{Stretch}
 use Rattle.yds_trace.specs.declared.reason.Reason.TheVariants as reasons
 use Rattle.yds_trace.specs.Jobs.{Job}
 use Rattle.yds_trace.specs.Document.{Judged, jobs_of, has_run_on, shares_of, all_judged}
-use Rattle.yds_trace.specs.Parts.{belongs, processor_count, processors_of, cut_after}
+use Rattle.yds_trace.specs.Past.{processor_count}
+use Rattle.yds_trace.specs.Parts.{belongs, processors_of, cut_after}
 
 -- # Which jobs there are
 

@@ -16,7 +16,7 @@ pub fn lateness_is_kept()
     ensures { LatenessIsKept }
 {}
 
-/// Each job of a trace without a fault begins by the greatest time that a trace may have.
+/// Each job of a trace without a fault begins by the greatest time that a trace may have, and its deadline counts from no later one.
 pub fn begins_are_in_time()
     ensures { BeginsAreInTime }
 {}

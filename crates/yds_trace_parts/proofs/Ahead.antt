@@ -111,6 +111,8 @@ line_halts asked strict bytes past said number telling (kept.AtLine at cause) ol
     told_by asked strict bytes past said number (kept.AtLine at cause) _ old now behind line stands.goes_on refl is appended
 line_halts asked strict bytes past said number telling (kept.Limit processor part fault) old now behind line front stands is appended =
     told_by asked strict bytes past said number (kept.Limit processor part fault) _ old now behind line stands.goes_on refl is appended
+line_halts asked strict bytes past said number telling (kept.NotKnown processor part place name reason) old now behind line front stands is appended =
+    told_by asked strict bytes past said number (kept.NotKnown processor part place name reason) _ old now behind line stands.goes_on refl is appended
 line_halts asked strict bytes past said number telling (kept.TooLong processor part) old now behind line front stands is appended =
     told_by asked strict bytes past said number (kept.TooLong processor part) _ old now behind line stands.goes_on refl is appended
 line_halts asked strict bytes past said number telling (kept.NoPlace name begin late) old now behind line front stands is appended =
@@ -210,6 +212,8 @@ end_halts asked strict bytes given lines number telling (kept.AtLine at cause) o
     end_by asked strict bytes given lines number (kept.AtLine at cause) _ old now whole last stands.goes_on refl is appended
 end_halts asked strict bytes given lines number telling (kept.Limit processor part fault) old now whole last front stands is appended =
     end_by asked strict bytes given lines number (kept.Limit processor part fault) _ old now whole last stands.goes_on refl is appended
+end_halts asked strict bytes given lines number telling (kept.NotKnown processor part place name reason) old now whole last front stands is appended =
+    end_by asked strict bytes given lines number (kept.NotKnown processor part place name reason) _ old now whole last stands.goes_on refl is appended
 end_halts asked strict bytes given lines number telling (kept.TooLong processor part) old now whole last front stands is appended =
     end_by asked strict bytes given lines number (kept.TooLong processor part) _ old now whole last stands.goes_on refl is appended
 end_halts asked strict bytes given lines number telling (kept.NoPlace name begin late) old now whole last front stands is appended =

@@ -4,7 +4,8 @@ use Rattle.yds_kernel.specs.Event.{Said}
 use Rattle.yds_trace.specs.declared.cut.Cut.{Cut}
 use Rattle.yds_trace.specs.Asked.{Asked, on}
 use Rattle.yds_trace.specs.Document.{Judged}
-use Rattle.yds_trace.specs.Parts.{place_of, with_part, cut_at, processor_count, processors_of}
+use Rattle.yds_trace.specs.Past.{processor_count}
+use Rattle.yds_trace.specs.Parts.{place_of, with_part, cut_at, processors_of}
 use Rattle.yds_trace_laws.proofs.Processors.{some_processor, part_unseen, cut_unseen}
 use Rattle.yds_trace_parts.specs.declared.processors.Processor.{Processor}
 use Rattle.yds_trace_parts.specs.declared.processors.Pieces.{Pieces}

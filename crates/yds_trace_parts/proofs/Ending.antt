@@ -31,6 +31,7 @@ own_halt found kept.WriteFault is = is
 own_halt found (kept.InForm number fault) is = tt
 own_halt found (kept.AtLine number cause) is = tt
 own_halt found (kept.Limit processor part fault) is = tt
+own_halt found (kept.NotKnown processor part place name reason) is = tt
 own_halt found (kept.TooLong processor part) is = tt
 own_halt found (kept.NoPlace name begin late) is = tt
 

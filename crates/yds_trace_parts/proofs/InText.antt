@@ -11,10 +11,10 @@ use Rattle.yds_trace.specs.Asked.{Asked, on}
 use Rattle.yds_trace.specs.Document.{Judged}
 use Rattle.yds_trace.specs.Faults.{said_fault, whole_fault}
 use Rattle.yds_trace.specs.Others.{others_from}
-use Rattle.yds_trace.specs.Parts.{cut_after, part_until, parts_fault, place_of, processors_of, waiting, is_due, is_too_much, may_write}
-use Rattle.yds_trace_document.specs.declared.fault.DocumentFault.{DocumentFault}
+use Rattle.yds_trace.specs.Parts.{cut_after, part_until, parts_fault, place_of, processors_of, waiting, is_due, is_too_much}
 use Rattle.yds_trace_document.specs.declared.fault.DocumentFault.TheVariants as faults
-use Rattle.yds_trace_document.specs.Part.{part_of, part_limit_fault}
+use Rattle.yds_trace_document.specs.Part.{part_of}
+use Rattle.yds_trace_text.specs.Limit.{Limit, Beyond, part_limit}
 use Rattle.yds_trace_text.specs.PartText.{part_text}
 use Rattle.yds_trace_parts.specs.declared.halt.Halt.{Halt as HaltKept}
 use Rattle.yds_trace_parts.specs.declared.halt.Halt.TheVariants as kept
@@ -48,9 +48,9 @@ at_its_line place (Some cause) = refl
 
 -- # A part
 
-of_no_line : (place : ℕ) (processor : Option ℕ) (part : ℕ) (fault : Option DocumentFault) → IsAtPlace place (of_document processor part fault)
+of_no_line : (place : ℕ) (processor : Option ℕ) (part : ℕ) (limit : Option Limit) → IsAtPlace place (of_document processor part limit)
 of_no_line place processor part None = tt
-of_no_line place processor part (Some fault) = tt
+of_no_line place processor part (Some limit) = tt
 
 if_long : (place : ℕ) (processor : Option ℕ) (part : ℕ) (long : Bool) → IsAtPlace place (if long then Some (OfText processor part) else None)
 if_long place processor part true = tt
@@ -59,9 +59,9 @@ if_long place processor part false = tt
 at_part : (place : ℕ) (asked : Asked) (strict : Bool) (past : List Said) (cut : Cut) (until : Option ℕ) → IsAtPlace place (part_piece asked strict past cut until).halt
 at_part place asked strict past cut until =
     at_unless place (part_halt asked strict past cut until) (part_text asked past cut until)
-    (at_else place (of_document (part_processor asked) (next_number cut) (part_limit_fault asked strict cut (part_of asked past cut until)))
+    (at_else place (of_document (part_processor asked) (next_number cut) (part_limit asked strict cut (part_of asked past cut until)))
     (of_text (part_processor asked) (next_number cut) (part_text asked past cut until))
-    (of_no_line place (part_processor asked) (next_number cut) (part_limit_fault asked strict cut (part_of asked past cut until)))
+    (of_no_line place (part_processor asked) (next_number cut) (part_limit asked strict cut (part_of asked past cut until)))
     (if_long place (part_processor asked) (next_number cut) (nat_lt MAX_INPUT (length (part_text asked past cut until)))))
 
 -- # Behind a line
@@ -70,16 +70,14 @@ no_line : (place : ℕ) (found : Option Judged) → IsAtPlace place (no_place fo
 no_line place None = tt
 no_line place (Some judged) = tt
 
-if_waiting : (place : ℕ) (found : Option Judged) (much may : Bool) →
-    IsAtPlace place (if not much then None else (if may then no_place found else Some (AtLine place causes.NoWakeUp)))
-if_waiting place found false may = tt
-if_waiting place found true true = no_line place found
-if_waiting place found true false = refl
+if_waiting : (place : ℕ) (found : Option Judged) (much : Bool) → IsAtPlace place (if much then no_place found else None)
+if_waiting place found false = tt
+if_waiting place found true = no_line place found
 
 at_waiting : (asked : Asked) (past : List Said) (cut : Cut) → IsAtPlace (length past) (waiting_halt asked past cut)
 at_waiting asked past cut =
     if_waiting (length past) (open_longest asked past (waiting asked past cut))
-    (is_due past && is_too_much (waiting asked past cut) (others_from asked past cut.boundary)) (may_write asked past)
+    (is_due past && is_too_much (waiting asked past cut) (others_from asked past cut.boundary))
 
 at_piece_with : (place : ℕ) (asked : Asked) (strict : Bool) (past : List Said) (cut : Cut) (time : ℕ) (jobs : List Judged) →
     IsAtPlace place (piece_with asked strict past cut time jobs).halt
@@ -133,7 +131,7 @@ at_last place asked strict past (processor ∷ more) =
     let rest = last_pieces asked strict past more in
     at_both place piece.text piece.halt rest.text rest.halt (at_part place here strict past (cut_after here past) None) (at_last place asked strict past more)
 
-if_jobless : (place : ℕ) (jobless : Bool) → IsAtPlace place (if jobless then Some (OfDocument None 1 faults.NoJobAnywhere) else None)
+if_jobless : (place : ℕ) (jobless : Bool) → IsAtPlace place (if jobless then Some (OfDocument None 1 (Beyond faults.NoJobAnywhere)) else None)
 if_jobless place true = tt
 if_jobless place false = tt
 
@@ -176,5 +174,6 @@ kept_number number found kept.WriteFault is = is
 kept_number number found (kept.InForm at fault) is = ap (at_number number) is
 kept_number number found (kept.AtLine at cause) is = ap (at_number number) is
 kept_number number found (kept.Limit processor part fault) is = ap (at_number number) is
+kept_number number found (kept.NotKnown processor part place name reason) is = ap (at_number number) is
 kept_number number found (kept.TooLong processor part) is = ap (at_number number) is
 kept_number number found (kept.NoPlace name begin late) is = ap (at_number number) is

@@ -1,5 +1,5 @@
 -- What the loops over the processors keep.
-use Rattle.base.proofs.Common.{◌≡◌, ℕ, ◌+◌, ◌<◌, ◌≤◌, ◌||◌, ◌⊎◌, inl, inr, Bool, true, false, List, [], ◌∷◌, ◌++◌, map, max, min, length, list_any, Option, Some, None, unwrap_or, refl, sym, ap, ap₂, subst, ◌∙◌, arith, append_assoc, append-nil, le_refl, le-ltb, nat_lt, get_or, drop, drop-cons, add-one, not, is_some, ◌&&◌, length-append, length-map}
+use Rattle.base.proofs.Common.{◌≡◌, ℕ, ◌+◌, ◌<◌, ◌≤◌, ◌||◌, ◌⊎◌, inl, inr, Bool, true, false, List, [], ◌∷◌, ◌++◌, map, max, min, length, list_any, Option, Some, None, unwrap_or, refl, sym, ap, ap₂, subst, ◌∙◌, arith, append_assoc, append-nil, le_refl, le-ltb, nat_lt, get_or, drop, drop-cons, add-one, not, is_some, is_none, ◌&&◌, length-append, length-map}
 use Rattle.std.proofs.lemmas.List.{drop_all}
 use Rattle.yds_kernel.specs.declared.loss.Since.TheVariants as since
 use Rattle.yds_kernel.specs.Event.{Said, Stamped, Lost, Nothing, Event, Happening, Switch, WakeUp, Speed, Loss, Marker, Other}
@@ -8,9 +8,10 @@ use Rattle.yds_trace.specs.declared.pass.Pass.{Pass}
 use Rattle.yds_trace.specs.declared.shown.Shown.{Shown}
 use Rattle.yds_trace.specs.Asked.{Asked, on, task_of}
 use Rattle.yds_trace.specs.Kept.{IsAtBehind}
+use Rattle.yds_trace.specs.Faults.{missing_at}
 use Rattle.yds_trace.specs.Jobs.{Known, known_after}
-use Rattle.yds_trace.specs.Parts.{last_begin, no_cut, later, was_there_before, has_ended, sleeps_before, woken_before, is_known_so, wakes_at, came_back, changes_parts, is_due}
-use Rattle.yds_trace.specs.Past.{is_loss, lost_since, whole_since, has_switched, up_to}
+use Rattle.yds_trace.specs.Parts.{last_begin, no_cut, later, was_there_before, has_ended, sleeps_before, woken_before, came_before, is_known_so, wakes_at, came_back, reaches_back_so, changes_parts, is_due}
+use Rattle.yds_trace.specs.Past.{is_loss, lost_since, lines_since, has_switched, up_to}
 use Rattle.yds_trace.specs.Shown.{IsShown}
 use Rattle.yds_trace.proofs.Later.{later_changes}
 use Rattle.yds_trace.proofs.OnProcessor.{shown_on}
@@ -47,18 +48,18 @@ pub record NextSoFar (asked : Asked) (strict : Bool) (past : List Said) (boundar
   pub later : NoneEndsBefore boundary (map cut_in rest)
 
 -- what is made of the first processors, and these are the rest
-pub record AreNext (strict : Bool) (number : ℕ) (before pass : Pass) (shown : Shown) (all rest : List Processor) (made : Pieces) : Type 0 where
+pub record AreNext (strict : Bool) (before pass : Pass) (shown : Shown) (all rest : List Processor) (made : Pieces) : Type 0 where
   pub look : IsPlainLook pass shown
   pub turned : (asked : Asked) (past : List Said) (boundary : ℕ) → IsAtBehind asked past boundary before → IsTurned asked past boundary pass
   pub far : (asked : Asked) (past : List Said) (boundary : ℕ) → IsAtBehind asked past boundary before → IsShown asked past boundary shown →
-      NoneEndsBefore boundary (map cut_in all) → number ≡ length past → is_due past ≡ true → NextSoFar asked strict past boundary all rest made
+      NoneEndsBefore boundary (map cut_in all) → is_due past ≡ true → NextSoFar asked strict past boundary all rest made
 
-pub next_first : (strict : Bool) (number : ℕ) (pass : Pass) (shown : Shown) (all : List Processor) (made : Pieces) → IsPlainLook pass shown → made.text.items ≡ [] →
-    made.processors.items ≡ [] → AreNext strict number pass pass shown all all made
-next_first strict number pass shown all made look text none = record {
+pub next_first : (strict : Bool) (pass : Pass) (shown : Shown) (all : List Processor) (made : Pieces) → IsPlainLook pass shown → made.text.items ≡ [] →
+    made.processors.items ≡ [] → AreNext strict pass pass shown all all made
+next_first strict pass shown all made look text none = record {
   look = look;
   turned = λ asked past boundary at. turned_first asked past boundary pass at;
-  far = λ asked past boundary at shows later counted due. record {
+  far = λ asked past boundary at shows later due. record {
     written = subst (λ (one : List ℕ). IsSoFar (told_behind asked strict past) one all (pieces_at asked strict past all)) (sym text)
         (joined_first (map (told_behind asked strict past) all));
     moved = ap (λ (ones : List Processor). ones ++ map (with_piece_at asked past) all) none;
@@ -70,20 +71,20 @@ next_first strict number pass shown all made look text none = record {
 abbrev pub Turns : ℕ → Pass → Pass → Type 0
 Turns processor old new = (asked : Asked) (past : List Said) (boundary : ℕ) → IsAtBehind asked past boundary old → IsAtBehind (on processor asked) past boundary new
 
-abbrev pub Makes : Bool → ℕ → Pass → Shown → Processor → Piece → Type 0
-Makes strict number pass shown one piece = (asked : Asked) (past : List Said) (boundary : ℕ) → IsAtBehind asked past boundary pass → IsShown asked past boundary shown →
-    boundary ≤ one.cut.boundary → number ≡ length past → is_due past ≡ true → IsPiece (on one.number asked) strict past one.cut piece
+abbrev pub Makes : Bool → Pass → Shown → Processor → Piece → Type 0
+Makes strict pass shown one piece = (asked : Asked) (past : List Said) (boundary : ℕ) → IsAtBehind asked past boundary pass → IsShown asked past boundary shown →
+    boundary ≤ one.cut.boundary → is_due past ≡ true → IsPiece (on one.number asked) strict past one.cut piece
 
 turned_on : (asked : Asked) (past : List Said) (boundary processor : ℕ) (old new : Pass) → Turns processor old new → IsTurned asked past boundary old →
     IsTurned asked past boundary new
 turned_on asked past boundary processor old new turns turned =
     record { processor = processor; stands = turns (on turned.processor asked) past boundary turned.stands }
 
-made_on : (asked : Asked) (strict : Bool) (past : List Said) (number boundary : ℕ) (pass : Pass) (shown : Shown) (one : Processor) (piece : Piece) →
-    Makes strict number pass shown one piece → IsTurned asked past boundary pass → IsShown asked past boundary shown → boundary ≤ one.cut.boundary →
-    number ≡ length past → is_due past ≡ true → IsPiece (on one.number asked) strict past one.cut piece
-made_on asked strict past number boundary pass shown one piece makes turned shows later counted due =
-    makes (on turned.processor asked) past boundary turned.stands (shown_on asked turned.processor past boundary boundary shown (le_refl boundary) shows) later counted due
+made_on : (asked : Asked) (strict : Bool) (past : List Said) (boundary : ℕ) (pass : Pass) (shown : Shown) (one : Processor) (piece : Piece) →
+    Makes strict pass shown one piece → IsTurned asked past boundary pass → IsShown asked past boundary shown → boundary ≤ one.cut.boundary →
+    is_due past ≡ true → IsPiece (on one.number asked) strict past one.cut piece
+made_on asked strict past boundary pass shown one piece makes turned shows later due =
+    makes (on turned.processor asked) past boundary turned.stands (shown_on asked turned.processor past boundary boundary shown (le_refl boundary) shows) later due
 
 moved_more : (asked : Asked) (past : List Said) (ones rest : List Processor) (one next : Processor) (all : List Processor) → next ≡ with_piece_at asked past one →
     ones ++ map (with_piece_at asked past) (one ∷ rest) ≡ map (with_piece_at asked past) all →
@@ -92,17 +93,17 @@ moved_more asked past ones rest one next all is moved =
     append_assoc ones (next ∷ []) (map (with_piece_at asked past) rest)
     ∙ ap (λ (first : Processor). ones ++ first ∷ map (with_piece_at asked past) rest) is ∙ moved
 
-pub next_more : (strict : Bool) (number : ℕ) (before pass new : Pass) (shown : Shown) (all rest : List Processor) (one : Processor) (piece : Piece) (made more : Pieces) →
-    Turns one.number pass new → Makes strict number pass shown one piece → more.text.items ≡ made.text.items ++ piece.text.items →
+pub next_more : (strict : Bool) (before pass new : Pass) (shown : Shown) (all rest : List Processor) (one : Processor) (piece : Piece) (made more : Pieces) →
+    Turns one.number pass new → Makes strict pass shown one piece → more.text.items ≡ made.text.items ++ piece.text.items →
     more.processors.items ≡ made.processors.items ++ record { number = one.number; cut = piece.cut } ∷ [] →
-    AreNext strict number before pass shown all (one ∷ rest) made → AreNext strict number before new shown all rest more
-next_more strict number before pass new shown all rest one piece made more turns makes text ones next = record {
+    AreNext strict before pass shown all (one ∷ rest) made → AreNext strict before new shown all rest more
+next_more strict before pass new shown all rest one piece made more turns makes text ones next = record {
   look = look_turned one.number pass new shown next.look turns;
   turned = λ asked past boundary at. turned_on asked past boundary one.number pass new turns (next.turned asked past boundary at);
-  far = λ asked past boundary at shows later counted due.
-      let far : NextSoFar asked strict past boundary all (one ∷ rest) made = next.far asked past boundary at shows later counted due in
+  far = λ asked past boundary at shows later due.
+      let far : NextSoFar asked strict past boundary all (one ∷ rest) made = next.far asked past boundary at shows later due in
       let is : IsPiece (on one.number asked) strict past one.cut piece =
-      made_on asked strict past number boundary pass shown one piece makes (next.turned asked past boundary at) shows far.later.0 counted due in
+      made_on asked strict past boundary pass shown one piece makes (next.turned asked past boundary at) shows far.later.0 due in
       record {
         written = subst (λ (all_text : List ℕ). IsSoFar (told_behind asked strict past) all_text rest (pieces_at asked strict past all)) (sym text)
             (joined_more (told_behind asked strict past) made.text.items piece.text.items one rest (pieces_at asked strict past all) is.written far.written);
@@ -113,20 +114,20 @@ next_more strict number before pass new shown all rest one piece made more turns
       };
 }
 
-abbrev pub HaltsOn : Bool → ℕ → Pass → Shown → Processor → HaltKept → Type 0
-HaltsOn strict number pass shown one halt = (asked : Asked) (past : List Said) (boundary : ℕ) → IsAtBehind asked past boundary pass → IsShown asked past boundary shown →
-    boundary ≤ one.cut.boundary → number ≡ length past → is_due past ≡ true → HaltsBehind (on one.number asked) strict past one.cut halt
+abbrev pub HaltsOn : Bool → Pass → Shown → Processor → HaltKept → Type 0
+HaltsOn strict pass shown one halt = (asked : Asked) (past : List Said) (boundary : ℕ) → IsAtBehind asked past boundary pass → IsShown asked past boundary shown →
+    boundary ≤ one.cut.boundary → is_due past ≡ true → HaltsBehind (on one.number asked) strict past one.cut halt
 
-pub next_halts : (asked : Asked) (strict : Bool) (past : List Said) (number boundary : ℕ) (before pass : Pass) (shown : Shown) (all rest : List Processor) (one : Processor)
-    (made : Pieces) (halt : HaltKept) → AreNext strict number before pass shown all (one ∷ rest) made → HaltsOn strict number pass shown one halt →
-    IsAtBehind asked past boundary before → IsShown asked past boundary shown → NoneEndsBefore boundary (map cut_in all) → number ≡ length past → is_due past ≡ true →
+pub next_halts : (asked : Asked) (strict : Bool) (past : List Said) (boundary : ℕ) (before pass : Pass) (shown : Shown) (all rest : List Processor) (one : Processor)
+    (made : Pieces) (halt : HaltKept) → AreNext strict before pass shown all (one ∷ rest) made → HaltsOn strict pass shown one halt →
+    IsAtBehind asked past boundary before → IsShown asked past boundary shown → NoneEndsBefore boundary (map cut_in all) → is_due past ≡ true →
     IsHaltFor (pieces_at asked strict past all).halt halt
-next_halts asked strict past number boundary before pass shown all rest one made halt next halts at shows later counted due =
-    let far : NextSoFar asked strict past boundary all (one ∷ rest) made = next.far asked past boundary at shows later counted due in
+next_halts asked strict past boundary before pass shown all rest one made halt next halts at shows later due =
+    let far : NextSoFar asked strict past boundary all (one ∷ rest) made = next.far asked past boundary at shows later due in
     let turned : IsTurned asked past boundary pass = next.turned asked past boundary at in
     halts_as (told_behind asked strict past one).halt (pieces_at asked strict past all).halt halt
     (λ found is. joined_halts (told_behind asked strict past) made.text.items one rest (pieces_at asked strict past all) found is far.written)
-    (halts (on turned.processor asked) past boundary turned.stands (shown_on asked turned.processor past boundary boundary shown (le_refl boundary) shows) far.later.0 counted due)
+    (halts (on turned.processor asked) past boundary turned.stands (shown_on asked turned.processor past boundary boundary shown (le_refl boundary) shows) far.later.0 due)
 
 pub next_last : (asked : Asked) (strict : Bool) (past : List Said) (boundary : ℕ) (all : List Processor) (made : Pieces) → NextSoFar asked strict past boundary all [] made →
     ArePieces asked strict past all made
@@ -239,8 +240,8 @@ and_false false b is = refl
 
 was_there : (asked : Asked) (past : List Said) (event : Event) (happening : Happening) → was_there_before asked past no_cut event happening ≡ false
 was_there asked past event (Switch previous state next) =
-    and_false (is_some (task_of asked.tasks previous) && not (has_switched event.processor (up_to asked.to past))) (nat_lt (whole_since event.time (up_to asked.to past)) 0)
-    (none_under (whole_since event.time (up_to asked.to past)))
+    and_false (is_some (task_of asked.tasks previous) && not (has_switched event.processor (up_to asked.to past))) (nat_lt (lines_since event.processor event.time (up_to asked.to past)) 0)
+    (none_under (lines_since event.processor event.time (up_to asked.to past)))
 was_there asked past event (WakeUp thread starts) = refl
 was_there asked past event (Speed processor khz) = refl
 was_there asked past event Loss = refl
@@ -250,6 +251,12 @@ was_there asked past event Other = refl
 sleeps_never : (known : Known) → sleeps_before 0 known ≡ false
 sleeps_never known = and_false (known.woken.seen && has_ended known.jobs) (nat_lt (last_begin known.jobs) 0) (none_under (last_begin known.jobs))
 
+woken_never : (known : Known) → woken_before 0 known ≡ false
+woken_never known = and_false (is_some known.woken.started) (sleeps_before 0 known) (sleeps_never known)
+
+came_never : (known : Known) → came_before 0 known ≡ false
+came_never known = and_false (is_none known.on) (woken_before 0 known) (woken_never known)
+
 never_so : (asked : Asked) (past : List Said) (test : Known → Bool) → ((known : Known) → test known ≡ false) → (found : Option ℕ) →
     (elim found as (λ _. Bool) [ None ↦ false | Some number ↦ test (known_after asked number (up_to asked.to past)) ]) ≡ false
 never_so asked past test none None = refl
@@ -257,22 +264,29 @@ never_so asked past test none (Some number) = none (known_after asked number (up
 
 came_back_never : (asked : Asked) (past : List Said) (event : Event) (happening : Happening) → came_back asked past no_cut event happening ≡ false
 came_back_never asked past event (Switch previous state next) =
-    and_false (wakes_at asked event) (is_known_so asked past next (sleeps_before 0)) (never_so asked past (sleeps_before 0) sleeps_never (task_of asked.tasks next))
+    and_false (wakes_at asked event) (is_known_so asked past previous (came_before 0) || is_known_so asked past next (sleeps_before 0))
+    (ap₂ (λ (a b : Bool). a || b) (never_so asked past (came_before 0) came_never (task_of asked.tasks previous))
+    (never_so asked past (sleeps_before 0) sleeps_never (task_of asked.tasks next)))
 came_back_never asked past event (WakeUp thread starts) =
     and_false (wakes_at asked event) (not starts && is_known_so asked past thread (woken_before 0))
     (and_false (not starts) (is_known_so asked past thread (woken_before 0))
-    (never_so asked past (woken_before 0) (λ known. and_false (is_some known.woken.started) (sleeps_before 0 known) (sleeps_never known)) (task_of asked.tasks thread)))
+    (never_so asked past (woken_before 0) woken_never (task_of asked.tasks thread)))
 came_back_never asked past event (Speed processor khz) = refl
 came_back_never asked past event Loss = refl
 came_back_never asked past event Marker = refl
 came_back_never asked past event Other = refl
+
+missing_never : (time : Option ℕ) → reaches_back_so no_cut time ≡ false
+missing_never None = refl
+missing_never (Some time) = none_under time
 
 -- no line changes a part where there is none
 not_before_0 : (asked : Asked) (past : List Said) (said : Said) → changes_parts asked past no_cut said ≡ false
 not_before_0 asked past (Stamped event) =
     ap₂ (λ (a b : Bool). a || b)
     (and_false (is_loss event.happening) (nat_lt (lost_since event.processor since.ItsLastLine past) 0) (none_under (lost_since event.processor since.ItsLastLine past)))
-    (ap₂ (λ (a b : Bool). a || b) (was_there asked past event event.happening) (came_back_never asked past event event.happening))
+    (ap₂ (λ (a b : Bool). a || b) (missing_never (missing_at asked past event))
+    (ap₂ (λ (a b : Bool). a || b) (was_there asked past event event.happening) (came_back_never asked past event event.happening)))
 not_before_0 asked past (Lost processor reach) = none_under (lost_since processor reach past)
 not_before_0 asked past Nothing = refl
 
@@ -381,21 +395,21 @@ grows_last old now cut last more grows cuts count is same =
 -- # By their place
 
 -- the processor at this place, and the rest behind it
-pub next_at : (strict : Bool) (number : ℕ) (before pass new : Pass) (shown : Shown) (all : List Processor) (i : ℕ) (d : Processor) (piece : Piece) (made more : Pieces) →
-    i < length all → Turns (get_or all i d).number pass new → Makes strict number pass shown (get_or all i d) piece → more.text.items ≡ made.text.items ++ piece.text.items →
+pub next_at : (strict : Bool) (before pass new : Pass) (shown : Shown) (all : List Processor) (i : ℕ) (d : Processor) (piece : Piece) (made more : Pieces) →
+    i < length all → Turns (get_or all i d).number pass new → Makes strict pass shown (get_or all i d) piece → more.text.items ≡ made.text.items ++ piece.text.items →
     more.processors.items ≡ made.processors.items ++ record { number = (get_or all i d).number; cut = piece.cut } ∷ [] →
-    AreNext strict number before pass shown all (drop i all) made → AreNext strict number before new shown all (drop (i + 1) all) more
-next_at strict number before pass new shown all i d piece made more within turns makes text ones next =
-    next_more strict number before pass new shown all (drop (i + 1) all) (get_or all i d) piece made more turns makes text ones
-    (subst (λ (rest : List Processor). AreNext strict number before pass shown all rest made) (rest_at all i d within) next)
+    AreNext strict before pass shown all (drop i all) made → AreNext strict before new shown all (drop (i + 1) all) more
+next_at strict before pass new shown all i d piece made more within turns makes text ones next =
+    next_more strict before pass new shown all (drop (i + 1) all) (get_or all i d) piece made more turns makes text ones
+    (subst (λ (rest : List Processor). AreNext strict before pass shown all rest made) (rest_at all i d within) next)
 
-pub next_halts_at : (asked : Asked) (strict : Bool) (past : List Said) (number boundary : ℕ) (before pass : Pass) (shown : Shown) (all : List Processor) (i : ℕ) (d : Processor)
-    (made : Pieces) (halt : HaltKept) → i < length all → AreNext strict number before pass shown all (drop i all) made → HaltsOn strict number pass shown (get_or all i d) halt →
-    IsAtBehind asked past boundary before → IsShown asked past boundary shown → NoneEndsBefore boundary (map cut_in all) → number ≡ length past → is_due past ≡ true →
+pub next_halts_at : (asked : Asked) (strict : Bool) (past : List Said) (boundary : ℕ) (before pass : Pass) (shown : Shown) (all : List Processor) (i : ℕ) (d : Processor)
+    (made : Pieces) (halt : HaltKept) → i < length all → AreNext strict before pass shown all (drop i all) made → HaltsOn strict pass shown (get_or all i d) halt →
+    IsAtBehind asked past boundary before → IsShown asked past boundary shown → NoneEndsBefore boundary (map cut_in all) → is_due past ≡ true →
     IsHaltFor (pieces_at asked strict past all).halt halt
-next_halts_at asked strict past number boundary before pass shown all i d made halt within next halts at shows later counted due =
-    next_halts asked strict past number boundary before pass shown all (drop (i + 1) all) (get_or all i d) made halt
-    (subst (λ (rest : List Processor). AreNext strict number before pass shown all rest made) (rest_at all i d within) next) halts at shows later counted due
+next_halts_at asked strict past boundary before pass shown all i d made halt within next halts at shows later due =
+    next_halts asked strict past boundary before pass shown all (drop (i + 1) all) (get_or all i d) made halt
+    (subst (λ (rest : List Processor). AreNext strict before pass shown all rest made) (rest_at all i d within) next) halts at shows later due
 
 pub next_end : (asked : Asked) (strict : Bool) (past : List Said) (boundary : ℕ) (all : List Processor) (i : ℕ) (made : Pieces) → length all ≤ i →
     NextSoFar asked strict past boundary all (drop i all) made → ArePieces asked strict past all made

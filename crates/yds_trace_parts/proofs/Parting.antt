@@ -1,5 +1,5 @@
 -- What the code finds of a part is what the definitions say of it.
-use Rattle.base.proofs.Common.{◌≡◌, ◌<◌, ◌≤◌, ◌+◌, ℕ, List, length, Bool, true, false, nat_lt, nat_le, Option, Some, None, Ok, Err, if◌then◌else◌, sym, ap, subst, ◌∙◌, arith, nat_tests, leb-true, le-leb}
+use Rattle.base.proofs.Common.{◌≡◌, ◌<◌, ◌≤◌, ◌+◌, ℕ, List, length, Bool, true, false, nat_lt, nat_le, Option, Some, None, option_map, Ok, Err, if◌then◌else◌, sym, ap, subst, ◌∙◌, arith, nat_tests, leb-true, le-leb}
 use Rattle.std.specs.Prelude.{Vec}
 use Rattle.std.specs.declared.alloc.Global.{Global}
 use Rattle.base.specs.declared.limits.TheConstants.{MAX_INPUT}
@@ -7,6 +7,8 @@ use Rattle.yds_kernel.specs.Event.{Said}
 use Rattle.yds_kernel.specs.Parts.{or_else, capped}
 use Rattle.yds_trace.specs.declared.cut.Cut.{Cut}
 use Rattle.yds_trace.specs.Asked.{Asked}
+use Rattle.yds_trace_document.specs.Part.{part_of}
+use Rattle.yds_trace_text.specs.Limit.{Limit, limit_of}
 use Rattle.yds_trace_document.specs.declared.fault.DocumentFault.{DocumentFault}
 use Rattle.yds_trace_text.specs.declared.fault.NoText.{NoText}
 use Rattle.yds_trace_text.specs.declared.fault.NoText.TheVariants as texts
@@ -27,11 +29,15 @@ memory_halts found halt is = subst (λ (one : HaltKept). IsHaltFor found one) (s
 short_test : (a b : ℕ) → b ≤ a → nat_lt a b ≡ false
 short_test a b short = grind (arith, nat_tests)
 
+-- what is told of a fault of the part
+abbrev told_limit : Asked → List Said → Cut → Option ℕ → Option DocumentFault → Option Limit
+told_limit asked past cut until fault = option_map (limit_of (part_of asked past cut until).judged) fault
+
 -- A text that was written is the one that the definitions say.
 pub text_is : (asked : Asked) (strict : Bool) (past : List Said) (cut : Cut) (until : Option ℕ) (text : Vec ℕ Global) → WritesPart strict asked past cut until (Ok text) →
     IsText asked strict past cut until text.items
 text_is asked strict past cut until text is = record {
-  fits = ap (λ (fault : Option DocumentFault). or_else (of_document (part_processor asked) (next_number cut) fault)
+  fits = ap (λ (fault : Option DocumentFault). or_else (of_document (part_processor asked) (next_number cut) (told_limit asked past cut until fault))
       (of_text (part_processor asked) (next_number cut) (part_text asked past cut until))) is.without_fault
       ∙ ap (λ (long : Bool). if long then Some (OfText (part_processor asked) (next_number cut)) else None)
       (short_test MAX_INPUT (length (part_text asked past cut until)) (subst (λ (one : List ℕ). length one ≤ MAX_INPUT) is.exact is.short));
@@ -45,10 +51,13 @@ long_test a b long = grind (arith, nat_tests)
 pub text_halts : (asked : Asked) (strict : Bool) (past : List Said) (cut : Cut) (until : Option ℕ) (fault : NoText) → WritesPart strict asked past cut until (Err fault) →
     IsHaltFor (part_halt asked strict past cut until) (halt_of_text (part_processor asked) (next_number cut) fault)
 text_halts asked strict past cut until (texts.Limit fault) is =
-    ap (λ (found : Option DocumentFault). or_else (of_document (part_processor asked) (next_number cut) found)
+    ap (λ (found : Option Limit). or_else (of_document (part_processor asked) (next_number cut) found)
+    (of_text (part_processor asked) (next_number cut) (part_text asked past cut until))) is
+text_halts asked strict past cut until (texts.NotKnown place name reason) is =
+    ap (λ (found : Option Limit). or_else (of_document (part_processor asked) (next_number cut) found)
     (of_text (part_processor asked) (next_number cut) (part_text asked past cut until))) is
 text_halts asked strict past cut until texts.TooLong is =
-    ap (λ (fault : Option DocumentFault). or_else (of_document (part_processor asked) (next_number cut) fault)
+    ap (λ (fault : Option DocumentFault). or_else (of_document (part_processor asked) (next_number cut) (told_limit asked past cut until fault))
     (of_text (part_processor asked) (next_number cut) (part_text asked past cut until))) is.without_fault
     ∙ ap (λ (long : Bool). if long then Some (OfText (part_processor asked) (next_number cut)) else None)
     (long_test MAX_INPUT (length (part_text asked past cut until)) is.long)

@@ -5,7 +5,6 @@ use Rattle.yds_kernel.specs.Event.{Said}
 use Rattle.yds_kernel.specs.Parts.{or_else}
 use Rattle.yds_trace.specs.declared.job.End.{End}
 use Rattle.yds_trace.specs.declared.job.End.TheVariants as ends
-use Rattle.yds_trace.specs.declared.shown.ShownTask.{ShownTask}
 use Rattle.yds_trace.specs.declared.shown.Shown.{Shown}
 use Rattle.yds_trace.specs.Asked.{Asked, task_at}
 use Rattle.yds_trace.specs.Past.{last_time}
@@ -15,32 +14,23 @@ use Rattle.yds_trace.specs.Parts.{begin_of, begins_from, begins_before, is_over,
 use Rattle.yds_trace.specs.Shown.{IsShared}
 use Rattle.yds_trace_document.specs.Kept.{last_of}
 use Rattle.yds_trace_document.proofs.Same.{last_same}
-use Rattle.yds_trace_document.proofs.Waits.{OfTasks}
 use Rattle.yds_trace_document.proofs.Sorting.{FromLow, Rises, lower}
 use Rattle.std.specs.List.{find}
 use Rattle.std.specs.Option.{option_or}
 use Rattle.yds_trace_parts.specs.Told.{first_of, open_longest}
-use Rattle.yds_trace_parts.specs.Place.{places_shown, open_shown, last_begin_shown, last_begin_of, is_settled, Front, end_of, done_from, both, with_job, has_come, is_quiet_at, Places, with_place, Walk, start, stepped, walk}
+use Rattle.yds_trace_parts.specs.Place.{places_shown, open_shown, is_settled, Front, end_of, done_from, both, with_job, has_come, is_quiet_at, Places, with_place, Walk, start, stepped, walk}
 
 -- # Settled jobs
 
-read_begin : (tasks : List ShownTask) (number value : ℕ) → number < length tasks → ((d : ShownTask) → (get_or tasks number d).last_begin ≡ value) →
-    slice_index_or (map last_begin_shown tasks) number 0 ≡ value
-read_begin [] number value within each = absurd (omega arith)
-read_begin (task ∷ tasks) zero value within each = each task
-read_begin (task ∷ tasks) (suc number) value within each = read_begin tasks number value (omega arith) each
-
-abbrev settled_by : Asked → Judged → ℕ → ℕ → ℕ → Bool
-settled_by asked judged until begin last =
-    is_over until (nat_lt judged.job.begin begin) judged.job.end && nat_le (judged.job.begin + (task_at asked judged.task).apart) last
+abbrev settled_by : Asked → Judged → ℕ → ℕ → Bool
+settled_by asked judged until last =
+    is_over until judged.due judged.job.end && nat_le (judged.job.begin + (task_at asked judged.task).apart) last
 
 pub settled_same : (asked : Asked) (past : List Said) (boundary : ℕ) (shown : Shown) (judged : Judged) → IsShared asked past boundary shown →
-    judged.task < length asked.tasks → is_settled asked shown judged ≡ parts.is_settled asked past judged
-settled_same asked past boundary shown judged is within =
-    ap (λ (last : ℕ). settled_by asked judged (last_of asked.to last) (last_begin_of shown judged.task) last) is.last
-    ∙ ap₂ (λ (until begin : ℕ). settled_by asked judged until begin (last_time past)) (last_same asked.to (last_time past))
-    (read_begin shown.tasks.items judged.task (parts.last_begin_of asked past judged.task) (omega (arith, is.as_many, within))
-    (λ d. (is.tasks judged.task d within).last))
+    is_settled asked shown judged ≡ parts.is_settled asked past judged
+settled_same asked past boundary shown judged is =
+    ap (λ (last : ℕ). settled_by asked judged (last_of asked.to last) last) is.last
+    ∙ ap (λ (until : ℕ). settled_by asked judged until (last_time past)) (last_same asked.to (last_time past))
 
 -- # Times
 
@@ -367,16 +357,16 @@ walked asked shown past all front (judged ∷ rest) at is holds low rising same 
     (low_next (nat_lt at.before judged.job.begin) at.before judged.job.begin rest low.0 rising.0) rising.1 same.1)
 
 same_tests : (asked : Asked) (shown : Shown) (past : List Said) (boundary : ℕ) (jobs : List Judged) → IsShared asked past boundary shown →
-    OfTasks (length asked.tasks) jobs → SameTests asked shown past jobs
-same_tests asked shown past boundary [] is of = tt
-same_tests asked shown past boundary (judged ∷ jobs) is of =
-    (settled_same asked past boundary shown judged is of.0, same_tests asked shown past boundary jobs is of.1)
+    SameTests asked shown past jobs
+same_tests asked shown past boundary [] is = tt
+same_tests asked shown past boundary (judged ∷ jobs) is =
+    (settled_same asked past boundary shown judged is, same_tests asked shown past boundary jobs is)
 
 pub place_found : (asked : Asked) (shown : Shown) (past : List Said) (boundary : ℕ) (jobs : List Judged) → IsShared asked past boundary shown →
-    OfTasks (length asked.tasks) jobs → Rises begin_of jobs →
+    Rises begin_of jobs →
     or_else (places_shown asked shown jobs).closed (places_shown asked shown jobs).quiet ≡ parts.place_among asked past jobs
-place_found asked shown past boundary jobs is of rising =
-    let ended = walked asked shown past jobs [] jobs (start asked jobs) refl (begun asked past jobs) (from_zero jobs) rising (same_tests asked shown past boundary jobs is of) in
+place_found asked shown past boundary jobs is rising =
+    let ended = walked asked shown past jobs [] jobs (start asked jobs) refl (begun asked past jobs) (from_zero jobs) rising (same_tests asked shown past boundary jobs is) in
     ap₂ (λ (closed quiet : Option ℕ). or_else closed quiet) ended.closed ended.quiet
 
 pub or_same : {A : Type 0} (first second : Option A) → option_or first second ≡ or_else first second
@@ -392,6 +382,6 @@ find_same asked shown past (judged ∷ jobs) same =
     ap₂ (λ (settled : Bool) (later : Option Judged). cond (not settled) (Some judged) later) same.0 (find_same asked shown past jobs same.1)
 
 pub open_found : (asked : Asked) (shown : Shown) (past : List Said) (boundary : ℕ) (jobs : List Judged) → IsShared asked past boundary shown →
-    OfTasks (length asked.tasks) jobs → open_shown asked shown jobs ≡ open_longest asked past jobs
-open_found asked shown past boundary jobs is of =
-    ap (λ (found : Option Judged). or_else found (first_of jobs)) (find_same asked shown past jobs (same_tests asked shown past boundary jobs is of))
+    open_shown asked shown jobs ≡ open_longest asked past jobs
+open_found asked shown past boundary jobs is =
+    ap (λ (found : Option Judged). or_else found (first_of jobs)) (find_same asked shown past jobs (same_tests asked shown past boundary jobs is))

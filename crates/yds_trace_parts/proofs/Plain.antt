@@ -5,6 +5,7 @@ use Rattle.yds_kernel.specs.Event.{Said}
 use Rattle.yds_kernel.specs.Parts.{or_else}
 use Rattle.yds_trace.specs.declared.asked.Asked.{Asked as AskedKept}
 use Rattle.yds_trace.specs.declared.fault.Cause.{Cause}
+use Rattle.yds_trace.specs.declared.job.Job.{Job as JobKept}
 use Rattle.yds_trace.specs.declared.limits.TheConstants.{MAX_TIME, MAX_DEADLINE}
 use Rattle.yds_trace.specs.declared.pass.Pass.{Pass}
 use Rattle.yds_trace.specs.declared.shown.Shown.{Shown}
@@ -31,18 +32,22 @@ use Rattle.yds_trace_parts.specs.Plain.{IsGranted, IsOfSome, IsPlainPass, HasRoo
 numbers_fit : (kept shown all lines limit : ℕ) → all ≡ kept + shown → all ≤ 2 * lines → 2 * lines ≤ limit → kept + shown ≤ limit
 numbers_fit kept shown all lines limit is few within = omega (arith, is, few, within)
 
+-- it begins in time, and so does the time from which its deadline counts
+abbrev IsEarly : Job → Type 0
+IsEarly job = (job.begin ≤ MAX_TIME) × (job.due_from ≤ MAX_TIME)
+
 task_plain : (asked : Asked) (past : List Said) (boundary number : ℕ) (shown : ShownTask) → IsReached asked.to → first_fault asked past ≡ None →
     2 * length past ≤ MAX_U64 → IsShownTask (shares_of asked past number) asked past boundary number shown → IsPlainTask shown
 task_plain asked past boundary number shown to sound few is =
-    let all : All (λ (job : Job). job.begin ≤ MAX_TIME) (is.forgotten ++ map job_read shown.jobs.items) =
-    subst (λ (jobs : List Job). All (λ (job : Job). job.begin ≤ MAX_TIME) jobs) is.jobs
-    (shares_kept (λ (job : Job). job.begin ≤ MAX_TIME) (λ processor job early. early) asked past number (begins_in_time asked past number to sound)) in
+    let all : All IsEarly (is.forgotten ++ map job_read shown.jobs.items) =
+    subst (All IsEarly) is.jobs (shares_kept IsEarly (λ processor job early. early) asked past number (begins_in_time asked past number to sound)) in
+    let shows : All (λ (job : JobKept). IsEarly (job_read job)) shown.jobs.items =
+    All-map_back IsEarly job_read shown.jobs.items (All-back IsEarly is.forgotten (map job_read shown.jobs.items) all) in
     let many : length (jobs_of asked past number) ≡ shown.forgotten + length shown.jobs.items =
     sym (length-map (jobs_of asked past number) (share_of asked)) ∙ ap length is.jobs ∙ length-append is.forgotten (map job_read shown.jobs.items)
     ∙ ap (λ (n : ℕ). length is.forgotten + n) (length-map shown.jobs.items job_read) ∙ ap (λ (n : ℕ). n + length shown.jobs.items) (sym is.as_many) in
     record {
-      begins = All-map_back (λ (job : Job). job.begin ≤ MAX_TIME) job_read shown.jobs.items
-          (All-back (λ (job : Job). job.begin ≤ MAX_TIME) is.forgotten (map job_read shown.jobs.items) all);
+      begins = λ i d within. record { begin = (shows i d within).0; due_from = (shows i d within).1 };
       numbers = numbers_fit shown.forgotten (length shown.jobs.items) (length (jobs_of asked past number)) (length past) MAX_U64 many (jobs_few asked past number) few;
     }
 

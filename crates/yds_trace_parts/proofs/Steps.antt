@@ -6,8 +6,9 @@ use Rattle.yds_trace.specs.declared.cut.Cut.{Cut}
 use Rattle.yds_trace.specs.declared.limits.TheConstants.{LOOK_EVERY}
 use Rattle.yds_trace.specs.Asked.{Asked}
 use Rattle.yds_trace.specs.Others.{others_from}
+use Rattle.yds_trace.specs.Past.{processor_count}
 use Rattle.yds_trace.specs.Document.{Judged, has_run_on}
-use Rattle.yds_trace.specs.Parts.{belongs, begin_of, begins_from, begins_before, is_written, waiting, of_part, part_until, is_before_end, is_much, is_due, has_job, is_done_by, is_closed_by, has_own_job, each_before, is_quiet, is_closed, may_write, last_where, place_among, place_of, processor_count, first_numbers, processors_of, cut_at, cut_after, no_cut}
+use Rattle.yds_trace.specs.Parts.{belongs, begin_of, begins_from, begins_before, is_written, waiting, of_part, part_until, is_before_end, is_much, is_due, has_job, is_done_by, is_closed_by, has_own_job, each_before, is_quiet, is_closed, last_where, place_among, place_of, first_numbers, processors_of, cut_at, cut_after, no_cut}
 use Rattle.yds_trace_text.specs.PartText.{part_text}
 use Rattle.yds_trace_parts.specs.Told.{Halt, Told, no_piece, both, piece_unless, piece_with, piece_at, pieces, with_piece, line_halt, part_halt, told_with, told_next, told_after}
 use Rattle.yds_trace_parts.specs.Telling.{text_alone}
@@ -60,18 +61,17 @@ not_due past some few =
     ap (λ (n : ℕ). n == 0) same ∙ ne_eqb (length past) 0 (λ (none : length past ≡ 0). omega (arith, none, some))
 
 -- it isn't looked for a place, or little waits
-pub none_if : (due may much : Bool) (place : Option ℕ) → (due ≡ false) ⊎ (much ≡ false) → (if due && may && much then place else None) ≡ None
-none_if due may much place (inl is) = ap (λ (b : Bool). if b && may && much then place else None) is
-none_if true true much place (inr is) = ap (λ (b : Bool). if b then place else None) is
-none_if true false much place (inr is) = refl
-none_if false may much place (inr is) = refl
+pub none_if : (due much : Bool) (place : Option ℕ) → (due ≡ false) ⊎ (much ≡ false) → (if due && much then place else None) ≡ None
+none_if due much place (inl is) = ap (λ (b : Bool). if b && much then place else None) is
+none_if true much place (inr is) = ap (λ (b : Bool). if b then place else None) is
+none_if false much place (inr is) = refl
 
 -- behind them it isn't looked for a place
 pub few_lines : (asked : Asked) (past : List Said) → length past < LOOK_EVERY → cut_after asked past ≡ no_cut
 few_lines asked [] few = refl
 few_lines asked (said ∷ past) few =
     same_cut asked past said
-    (none_if (is_due (said ∷ past)) (may_write asked (said ∷ past))
+    (none_if (is_due (said ∷ past))
     (is_much (waiting asked (said ∷ past) (cut_after asked past)) (others_from asked (said ∷ past) (cut_after asked past).boundary))
     (place_among asked (said ∷ past) (waiting asked (said ∷ past) (cut_after asked past))) (inl (not_due (said ∷ past) (omega arith) few)))
     ∙ few_lines asked past (omega (arith, few))
@@ -108,7 +108,7 @@ chosen_from low false place from = tt
 
 place_from : (asked : Asked) (past : List Said) (cut : Cut) → IsFrom cut.boundary (place_of asked past cut)
 place_from asked past cut =
-    chosen_from cut.boundary (is_due past && may_write asked past && is_much (waiting asked past cut) (others_from asked past cut.boundary))
+    chosen_from cut.boundary (is_due past && is_much (waiting asked past cut) (others_from asked past cut.boundary))
     (place_among asked past (waiting asked past cut))
     (either_from cut.boundary (last_where (is_closed asked past (waiting asked past cut)) (map begin_of (waiting asked past cut)))
     (last_where (is_quiet asked past (waiting asked past cut)) (map begin_of (waiting asked past cut)))
@@ -145,19 +145,17 @@ last_there test (other ∷ times) time held any = by (other == time) refl any (l
     by false is one rest = there_first (last_where test times) (if test other then Some other else None) (rest one)
 
 -- where it is looked for one and much waits, a quiet begin is enough
-pub place_there : (asked : Asked) (past : List Said) (cut : Cut) (time : ℕ) → is_due past ≡ true → may_write asked past ≡ true →
+pub place_there : (asked : Asked) (past : List Said) (cut : Cut) (time : ℕ) → is_due past ≡ true →
     is_much (waiting asked past cut) (others_from asked past cut.boundary) ≡ true →
     list_any (λ begin. begin == time) (map begin_of (waiting asked past cut)) ≡ true → is_quiet asked past (waiting asked past cut) time ≡ true →
     (place : ℕ) × (place_of asked past cut ≡ Some place)
-place_there asked past cut time due may much any quiet =
+place_there asked past cut time due much any quiet =
     let there : IsThere (place_among asked past (waiting asked past cut)) =
     there_second (last_where (is_closed asked past (waiting asked past cut)) (map begin_of (waiting asked past cut)))
     (last_where (is_quiet asked past (waiting asked past cut)) (map begin_of (waiting asked past cut)))
     (last_there (is_quiet asked past (waiting asked past cut)) (map begin_of (waiting asked past cut)) time quiet any) in (
       there.0,
-      ap₂ (λ (one other : Bool).
-          if one && other && is_much (waiting asked past cut) (others_from asked past cut.boundary) then place_among asked past (waiting asked past cut) else None) due may
-          ∙ ap (λ (one : Bool). if one then place_among asked past (waiting asked past cut) else None) much ∙ there.1,
+      ap₂ (λ (one other : Bool). if one && other then place_among asked past (waiting asked past cut) else None) due much ∙ there.1,
     )
 
 -- # A part with a job
@@ -200,7 +198,7 @@ held_chosen test false place held = tt
 place_quiet : (asked : Asked) (past : List Said) (cut : Cut) → IsHeld (is_quiet asked past (waiting asked past cut)) (place_of asked past cut)
 place_quiet asked past cut =
     held_chosen (is_quiet asked past (waiting asked past cut))
-    (is_due past && may_write asked past && is_much (waiting asked past cut) (others_from asked past cut.boundary)) (place_among asked past (waiting asked past cut))
+    (is_due past && is_much (waiting asked past cut) (others_from asked past cut.boundary)) (place_among asked past (waiting asked past cut))
     (held_either (is_quiet asked past (waiting asked past cut)) (last_where (is_closed asked past (waiting asked past cut)) (map begin_of (waiting asked past cut)))
     (last_where (is_quiet asked past (waiting asked past cut)) (map begin_of (waiting asked past cut)))
     (weaker_held (is_closed asked past (waiting asked past cut)) (is_quiet asked past (waiting asked past cut))

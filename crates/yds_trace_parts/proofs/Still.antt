@@ -2,7 +2,6 @@
 use Rattle.base.proofs.Common.{◌≡◌, ℕ, ◌≤◌, ◌⊎◌, inl, inr, ◌&&◌, ◌||◌, Bool, true, false, not, nat_lt, nat_tests, List, [], ◌∷◌, map, length, Option, Some, None, refl, sym, ap, ap₂, subst, ◌∙◌, arith, if◌then◌else◌}
 use Rattle.yds_kernel.specs.Event.{Said}
 use Rattle.yds_trace.specs.declared.cut.Cut.{Cut}
-use Rattle.yds_trace.specs.declared.fault.Cause.TheVariants as causes
 use Rattle.yds_trace.specs.declared.limits.TheConstants.{PART_JOBS, PART_STRETCHES, PART_OTHERS, WAITING_JOBS, WAITING_STRETCHES, WAITING_OTHERS}
 use Rattle.yds_trace.specs.declared.kept.Kept.{Kept}
 use Rattle.yds_trace.specs.declared.pass.Pass.{Pass}
@@ -10,9 +9,10 @@ use Rattle.yds_trace.specs.Asked.{Asked, on}
 use Rattle.yds_trace.specs.Kept.{IsAtBehind, IsEnough}
 use Rattle.yds_trace.specs.Document.{Judged}
 use Rattle.yds_trace.specs.Others.{Span, others_from}
-use Rattle.yds_trace.specs.Parts.{waiting, waiting_from, stretches_of, is_much, is_too_much, is_due, may_write, place_among, place_of, processor_count}
+use Rattle.yds_trace.specs.Past.{processor_count}
+use Rattle.yds_trace.specs.Parts.{waiting, waiting_from, stretches_of, is_much, is_too_much, is_due, place_among, place_of}
 use Rattle.yds_trace_parts.specs.declared.processors.Processor.{Processor}
-use Rattle.yds_trace_parts.specs.Told.{Halt, Told, AtLine, no_piece, both, piece_at, piece_of, no_place as no_place_halt, open_longest, waiting_halt, pieces}
+use Rattle.yds_trace_parts.specs.Told.{Halt, Told, no_piece, both, piece_at, piece_of, no_place as no_place_halt, open_longest, waiting_halt, pieces}
 use Rattle.yds_trace_parts.specs.Telling.{cut_on, told_on, IsUnseen, NoneEndsBefore, IsStill}
 use Rattle.yds_trace_parts.proofs.Steps.{none_if, same_cut}
 use Rattle.yds_trace_parts.proofs.Unseen.{more_processors}
@@ -23,9 +23,9 @@ less_much : (jobs stretches others : ℕ) → (nat_lt PART_JOBS jobs || nat_lt P
     (nat_lt WAITING_JOBS jobs || nat_lt WAITING_STRETCHES stretches || nat_lt WAITING_OTHERS others) ≡ false
 less_much jobs stretches others is = grind (arith, nat_tests)
 
-no_halt : (due much : Bool) (halt : Option Halt) → (due ≡ false) ⊎ (much ≡ false) → (if not (due && much) then None else halt) ≡ None
-no_halt due much halt (inl is) = ap (λ (b : Bool). if not (b && much) then None else halt) is
-no_halt true much halt (inr is) = ap (λ (b : Bool). if not b then None else halt) is
+no_halt : (due much : Bool) (halt : Option Halt) → (due ≡ false) ⊎ (much ≡ false) → (if due && much then halt else None) ≡ None
+no_halt due much halt (inl is) = ap (λ (b : Bool). if b && much then halt else None) is
+no_halt true much halt (inr is) = ap (λ (b : Bool). if b then halt else None) is
 no_halt false much halt (inr is) = refl
 
 -- it isn't looked for a place, or little waits
@@ -43,13 +43,13 @@ too_much_here jobs others due (inr is) = inr (less_much (length jobs) (stretches
 
 little_place : (asked : Asked) (past : List Said) (cut : Cut) → IsIdle asked past cut → place_of asked past cut ≡ None
 little_place asked past cut still =
-    none_if (is_due past) (may_write asked past) (is_much (waiting asked past cut) (others_from asked past cut.boundary))
+    none_if (is_due past) (is_much (waiting asked past cut) (others_from asked past cut.boundary))
     (place_among asked past (waiting asked past cut)) still
 
 little_halt : (asked : Asked) (past : List Said) (cut : Cut) → IsIdle asked past cut → waiting_halt asked past cut ≡ None
 little_halt asked past cut still =
     no_halt (is_due past) (is_too_much (waiting asked past cut) (others_from asked past cut.boundary))
-    (if may_write asked past then no_place_halt (open_longest asked past (waiting asked past cut)) else Some (AtLine (length past) causes.NoWakeUp))
+    (no_place_halt (open_longest asked past (waiting asked past cut)))
     (too_much_here (waiting asked past cut) (others_from asked past cut.boundary) (is_due past) still)
 
 still_place : (asked : Asked) (past : List Said) (processor time : ℕ) (cut : Cut) → IsStill asked past time → time ≤ cut.boundary → place_of (on processor asked) past cut ≡ None

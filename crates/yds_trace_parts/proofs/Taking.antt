@@ -8,7 +8,8 @@ use Rattle.yds_trace.specs.declared.pass.Pass.{Pass}
 use Rattle.yds_trace.specs.Asked.{Asked, on}
 use Rattle.yds_trace.specs.Faults.{said_fault, whole_fault}
 use Rattle.yds_trace.specs.Kept.{IsAtBehind, told_to_forget}
-use Rattle.yds_trace.specs.Parts.{next_processor, part_fault, parts_fault, cut_after, processors_of}
+use Rattle.yds_trace.specs.Past.{next_processor}
+use Rattle.yds_trace.specs.Parts.{part_fault, parts_fault, cut_after, processors_of}
 use Rattle.yds_trace_document.specs.declared.fault.DocumentFault.TheVariants as faults
 use Rattle.yds_trace_parts.specs.declared.halt.Halt.{Halt as HaltKept}
 use Rattle.yds_trace_parts.specs.declared.halt.Halt.TheVariants as kept
@@ -16,6 +17,7 @@ use Rattle.yds_trace_parts.specs.declared.part.Last.{Last}
 use Rattle.yds_trace_parts.specs.declared.processors.Processor.{Processor}
 use Rattle.yds_trace_parts.specs.declared.processors.Pieces.{Pieces}
 use Rattle.yds_trace_parts.specs.declared.telling.Telling.{Telling}
+use Rattle.yds_trace_text.specs.Limit.{Beyond}
 use Rattle.yds_trace_parts.specs.Told.{Halt, OfDocument, Told, at_line, both, piece_unless, has_written, line_halt, last_pieces, no_job_halt, last_piece, told_after}
 use Rattle.yds_trace_parts.specs.Telling.{IsHaltFor, text_alone, next_of, each_of, pieces_at, ArePieces, last_at, one_has_written, AreLast, cut_on, told_on, IsUnseen, cuts_of, IsLatest, NoneEndsBefore, IsWritten, IsTelling, IsTaken, IsStill, Adds, IsEnd}
 use Rattle.yds_trace_parts.proofs.Joined.{pieces_are, last_are}
@@ -159,6 +161,7 @@ halts_as found other kept.WriteFault same is = absurd is
 halts_as found other (kept.InForm number fault) same is = same _ is
 halts_as found other (kept.AtLine number cause) same is = same _ is
 halts_as found other (kept.Limit processor part fault) same is = same _ is
+halts_as found other (kept.NotKnown processor part place name reason) same is = same _ is
 halts_as found other (kept.TooLong processor part) same is = same _ is
 halts_as found other (kept.NoPlace name begin late) same is = same _ is
 
@@ -198,9 +201,9 @@ everywhere_is asked past (Some cut) unseen = sym unseen.0
 -- what the last parts halt for, beside their own reasons
 job_halt : (asked : Asked) (strict : Bool) (past : List Said) (telling : Telling) (last : Last) → IsTelling asked strict past telling →
     AreLast asked telling.strict past telling.processors.items last →
-    no_job_halt asked past (processors_of asked past) ≡ (if is_some telling.unseen && not last.has_job then Some (OfDocument None 1 faults.NoJobAnywhere) else None)
+    no_job_halt asked past (processors_of asked past) ≡ (if is_some telling.unseen && not last.has_job then Some (OfDocument None 1 (Beyond faults.NoJobAnywhere)) else None)
 job_halt asked strict past telling last is are =
-    ap₂ (λ (everywhere has : Bool). if everywhere && not has then Some (OfDocument None 1 faults.NoJobAnywhere) else None)
+    ap₂ (λ (everywhere has : Bool). if everywhere && not has then Some (OfDocument None 1 (Beyond faults.NoJobAnywhere)) else None)
     (sym (everywhere_is asked past telling.unseen is.is_written.unseen_is))
     (sym (are.some ∙ ap (one_has_written asked past) is.is_written.processors_are ∙ any_written asked past (processors_of asked past)))
 
@@ -213,10 +216,10 @@ last_written asked strict past telling is =
 last_is : (asked : Asked) (strict : Bool) (past : List Said) (telling : Telling) (last : Last) (b : Bool) → IsTelling asked strict past telling →
     AreLast asked telling.strict past telling.processors.items last → (is_some telling.unseen && not last.has_job) ≡ b →
     last_piece asked strict past (processors_of asked past)
-    ≡ both (text_alone last.text.items) (piece_unless (if b then Some (OfDocument None 1 faults.NoJobAnywhere) else None) [])
+    ≡ both (text_alone last.text.items) (piece_unless (if b then Some (OfDocument None 1 (Beyond faults.NoJobAnywhere)) else None) [])
 last_is asked strict past telling last b is are no_job =
     ap₂ (λ (first : Told) (halt : Option Halt). both first (piece_unless halt [])) (sym (last_written asked strict past telling is) ∙ are.written)
-    (job_halt asked strict past telling last is are ∙ ap (λ (one : Bool). if one then Some (OfDocument None 1 faults.NoJobAnywhere) else None) no_job)
+    (job_halt asked strict past telling last is are ∙ ap (λ (one : Bool). if one then Some (OfDocument None 1 (Beyond faults.NoJobAnywhere)) else None) no_job)
 
 pub last_told : (asked : Asked) (strict : Bool) (past : List Said) (telling : Telling) (last : Last) → IsTelling asked strict past telling →
     AreLast asked telling.strict past telling.processors.items last → (is_some telling.unseen && not last.has_job) ≡ false → IsEnd asked strict past last.text.items
@@ -225,7 +228,7 @@ last_told asked strict past telling last is are no_job =
 
 pub last_no_job : (asked : Asked) (strict : Bool) (past : List Said) (telling : Telling) (last : Last) → IsTelling asked strict past telling →
     AreLast asked telling.strict past telling.processors.items last → (is_some telling.unseen && not last.has_job) ≡ true →
-    (last_piece asked strict past (processors_of asked past)).halt ≡ Some (OfDocument None 1 faults.NoJobAnywhere)
+    (last_piece asked strict past (processors_of asked past)).halt ≡ Some (OfDocument None 1 (Beyond faults.NoJobAnywhere))
 last_no_job asked strict past telling last is are no_job = ap (λ (told : Told). told.halt) (last_is asked strict past telling last true is are no_job)
 
 first_halts : (text : List ℕ) (halt : Option Halt) (second : Told) (found : Halt) → halt ≡ Some found → (both (record { text = text; halt = halt }) second).halt ≡ Some found

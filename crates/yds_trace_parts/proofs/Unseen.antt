@@ -4,7 +4,8 @@ use Rattle.yds_kernel.specs.Event.{Said}
 use Rattle.yds_trace.specs.declared.cut.Cut.{Cut}
 use Rattle.yds_trace.specs.declared.fault.Cause.TheVariants as causes
 use Rattle.yds_trace.specs.Asked.{Asked}
-use Rattle.yds_trace.specs.Parts.{changes_parts, changes_one, next_processor, processor_count, first_numbers, processors_of, watched_of, part_fault, parts_fault}
+use Rattle.yds_trace.specs.Past.{next_processor, processor_count}
+use Rattle.yds_trace.specs.Parts.{changes_parts, changes_one, first_numbers, processors_of, watched_of, part_fault, parts_fault}
 use Rattle.yds_trace.proofs.OnProcessor.{changes_parts_on}
 use Rattle.yds_trace_parts.specs.declared.processors.Processor.{Processor}
 use Rattle.yds_trace_parts.specs.Telling.{each_of, cut_on, told_on, IsUnseen, cuts_of, IsLatest, NoneEndsBefore, IsWritten}

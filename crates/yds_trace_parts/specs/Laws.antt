@@ -6,7 +6,7 @@ use Rattle.yds_trace.specs.declared.limits.TheConstants.{LOOK_EVERY}
 use Rattle.yds_trace.specs.Asked.{Asked}
 use Rattle.yds_trace.specs.Others.{others_from}
 use Rattle.yds_trace.specs.declared.cut.Cut.{Cut}
-use Rattle.yds_trace.specs.Parts.{cut_after, no_cut, place_of, is_due, may_write, is_much, waiting, begin_of, is_quiet}
+use Rattle.yds_trace.specs.Parts.{cut_after, no_cut, place_of, is_due, is_much, waiting, begin_of, is_quiet}
 use Rattle.yds_trace_text.specs.PartText.{part_text}
 use Rattle.yds_trace_parts.specs.Told.{Halt, line_halt, part_halt, told_after}
 
@@ -38,7 +38,7 @@ PartsFollow = (asked : Asked) (strict : Bool) (past : List Said) (said : Said) (
 
 -- Where it is looked for a part and much waits, a quiet begin of a waiting job is enough for one.
 abbrev pub PartsEnd : Type 0
-PartsEnd = (asked : Asked) (past : List Said) (cut : Cut) (time : ℕ) → is_due past ≡ true → may_write asked past ≡ true →
+PartsEnd = (asked : Asked) (past : List Said) (cut : Cut) (time : ℕ) → is_due past ≡ true →
     is_much (waiting asked past cut) (others_from asked past cut.boundary) ≡ true →
     list_any (λ begin. begin == time) (map begin_of (waiting asked past cut)) ≡ true → is_quiet asked past (waiting asked past cut) time ≡ true →
     (place : ℕ) × (place_of asked past cut ≡ Some place)

@@ -1,10 +1,9 @@
 -- Where a part may end, by what is shown: one walk over the waiting jobs in order of begin.
-use Rattle.std.specs.Prelude.{ℕ, ◌+◌, List, [], ◌∷◌, map, max, Bool, false, not, ◌&&◌, ◌||◌, nat_lt, nat_le, if◌then◌else◌, Option, Some, None, option_map}
-use Rattle.std.specs.List.{slice_index_or, find, list_any}
+use Rattle.std.specs.Prelude.{ℕ, ◌+◌, List, [], ◌∷◌, max, Bool, false, not, ◌&&◌, ◌||◌, nat_lt, nat_le, if◌then◌else◌, Option, Some, None, option_map}
+use Rattle.std.specs.List.{find, list_any}
 use Rattle.yds_kernel.specs.Parts.{or_else}
 use Rattle.yds_trace.specs.declared.job.End.{End}
 use Rattle.yds_trace.specs.declared.job.End.TheVariants as ends
-use Rattle.yds_trace.specs.declared.shown.ShownTask.{ShownTask}
 use Rattle.yds_trace.specs.declared.shown.Shown.{Shown}
 use Rattle.yds_trace.specs.Asked.{Asked, task_at}
 use Rattle.yds_trace.specs.Document.{Judged, stands}
@@ -19,15 +18,9 @@ use Rattle.yds_trace_parts.specs.declared.place.Places.{Places as PlacesKept}
 abbrev pub judged_option : Option JudgedKept → Option Judged
 judged_option judged = option_map judged_read judged
 
-abbrev pub last_begin_shown : ShownTask → ℕ
-last_begin_shown task = task.last_begin
-
-abbrev pub last_begin_of : Shown → ℕ → ℕ
-last_begin_of shown number = slice_index_or (map last_begin_shown shown.tasks.items) number 0
-
 abbrev pub is_settled : Asked → Shown → Judged → Bool
 is_settled asked shown judged =
-    is_over (last_of asked.to shown.last) (nat_lt judged.job.begin (last_begin_of shown judged.task)) judged.job.end
+    is_over (last_of asked.to shown.last) judged.due judged.job.end
     && nat_le (judged.job.begin + (task_at asked judged.task).apart) shown.last
 
 -- # What is known of the jobs that begin before a time

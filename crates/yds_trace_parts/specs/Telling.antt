@@ -5,11 +5,13 @@ use Rattle.yds_kernel.specs.Event.{Said}
 use Rattle.yds_trace.specs.declared.cut.Cut.{Cut}
 use Rattle.yds_trace.specs.Asked.{Asked, on}
 use Rattle.yds_trace.specs.Others.{others_from}
+use Rattle.yds_trace.specs.Past.{processor_count}
 use Rattle.yds_trace.specs.Kept.{IsAtBehind, told_to_forget}
-use Rattle.yds_trace.specs.Parts.{cut_at, cut_after, place_of, waiting, waiting_from, with_part, is_due, is_much, may_write, changes_parts, processor_count, processors_of, first_numbers}
+use Rattle.yds_trace.specs.Parts.{cut_at, cut_after, place_of, waiting, waiting_from, with_part, is_due, is_much, changes_parts, processors_of, first_numbers}
 use Rattle.yds_trace.specs.declared.pass.Pass.{Pass}
 use Rattle.yds_trace_text.specs.declared.fault.NoText.{NoText}
 use Rattle.yds_trace_text.specs.declared.fault.NoText.TheVariants as texts
+use Rattle.yds_trace_text.specs.Limit.{Beyond, NotKnown}
 use Rattle.yds_trace_text.specs.PartText.{part_text}
 use Rattle.yds_trace_reading.specs.declared.first.NoBegin.{NoBegin}
 use Rattle.yds_trace_reading.specs.declared.first.NoBegin.TheVariants as begins
@@ -26,6 +28,7 @@ use Rattle.yds_trace_parts.specs.Told.{Halt, InForm, AtLine, OfDocument, OfText,
 
 abbrev pub halt_of_text : Option ℕ → ℕ → NoText → HaltKept
 halt_of_text processor part (texts.Limit fault) = kept.Limit processor part fault
+halt_of_text processor part (texts.NotKnown place name reason) = kept.NotKnown processor part place name reason
 halt_of_text processor part texts.TooLong = kept.TooLong processor part
 halt_of_text processor part texts.Memory = kept.Memory
 
@@ -40,7 +43,8 @@ halt_of_begin begins.Memory = kept.Memory
 abbrev pub halt_read : HaltKept → Option Halt
 halt_read (kept.InForm number fault) = Some (InForm (record { line = number; column = fault.column; reason = fault.reason }))
 halt_read (kept.AtLine number cause) = Some (AtLine number cause)
-halt_read (kept.Limit processor part fault) = Some (OfDocument processor part fault)
+halt_read (kept.Limit processor part fault) = Some (OfDocument processor part (Beyond fault))
+halt_read (kept.NotKnown processor part place name reason) = Some (OfDocument processor part (NotKnown place name.items reason))
 halt_read (kept.TooLong processor part) = Some (OfText processor part)
 halt_read (kept.NoPlace name begin late) = Some (NoPlace name.items begin late)
 halt_read kept.NoFirst = None
@@ -68,10 +72,9 @@ IsHaltFor found halt = found ≡ halt_read halt
 
 -- # A part
 
--- It is looked for a place behind these lines, a part may be written, and so much waits.
+-- It is looked for a place behind these lines, and so much waits.
 pub record Looks (asked : Asked) (past : List Said) (cut : Cut) : Type 0 where
   pub due : is_due past ≡ true
-  pub may : may_write asked past ≡ true
   pub much : is_much (waiting asked past cut) (others_from asked past cut.boundary) ≡ true
 
 -- the text of the part that ends at this time, or of the last one

@@ -10,16 +10,15 @@ use Rattle.yds_kernel.specs.Parts.{or_else, capped}
 use Rattle.yds_kernel.specs.Text.{Trace}
 use Rattle.yds_kernel_order.specs.Order.{order_of, line_at}
 use Rattle.yds_trace.specs.declared.fault.Cause.{Cause}
-use Rattle.yds_trace.specs.declared.fault.Cause.TheVariants as causes
 use Rattle.yds_trace.specs.Asked.{Asked, on}
 use Rattle.yds_trace.specs.Others.{others_from}
 use Rattle.yds_trace.specs.Document.{Judged}
 use Rattle.yds_trace.specs.Faults.{said_fault, whole_fault}
 use Rattle.yds_trace.specs.declared.cut.Cut.{Cut}
-use Rattle.yds_trace.specs.Parts.{cut_after, part_until, parts_fault, processors_of, waiting, place_of, is_settled, is_due, is_too_much, may_write}
-use Rattle.yds_trace_document.specs.declared.fault.DocumentFault.{DocumentFault}
+use Rattle.yds_trace.specs.Parts.{cut_after, part_until, parts_fault, processors_of, waiting, place_of, is_settled, is_due, is_too_much}
 use Rattle.yds_trace_document.specs.declared.fault.DocumentFault.TheVariants as faults
-use Rattle.yds_trace_document.specs.Part.{part_of, part_limit_fault}
+use Rattle.yds_trace_document.specs.Part.{part_of}
+use Rattle.yds_trace_text.specs.Limit.{Limit, Beyond, part_limit}
 use Rattle.yds_trace_text.specs.PartText.{part_text}
 use Rattle.yds_trace_reading.specs.LineFault.{past_of}
 
@@ -30,7 +29,7 @@ pub data Halt : Type 0 where
   -- the line at this place, or of this number in the text, can't stand behind those before it
   AtLine : (number : ℕ) (cause : Cause) → Halt
   -- The part of this number passes a limit of documents; it is one of this processor, where each has documents of its own.
-  OfDocument : (processor : Option ℕ) (part : ℕ) (fault : DocumentFault) → Halt
+  OfDocument : (processor : Option ℕ) (part : ℕ) (limit : Limit) → Halt
   -- its text is longer than a document may be
   OfText : (processor : Option ℕ) (part : ℕ) → Halt
   -- More wait than may, and there is no place to cut. This job has been open longest, or is the first that waits: its name, its begin, and by
@@ -63,9 +62,9 @@ next_number cut = capped (cut.parts + 1)
 abbrev pub part_processor : Asked → Option ℕ
 part_processor asked = if asked.everywhere then Some asked.processor else None
 
-abbrev pub of_document : Option ℕ → ℕ → Option DocumentFault → Option Halt
+abbrev pub of_document : Option ℕ → ℕ → Option Limit → Option Halt
 of_document processor part None = None
-of_document processor part (Some fault) = Some (OfDocument processor part fault)
+of_document processor part (Some limit) = Some (OfDocument processor part limit)
 
 abbrev pub of_text : Option ℕ → ℕ → List ℕ → Option Halt
 of_text processor part text = if nat_lt MAX_INPUT (length text) then Some (OfText processor part) else None
@@ -73,7 +72,7 @@ of_text processor part text = if nat_lt MAX_INPUT (length text) then Some (OfTex
 -- why the part that ends at this time, or the last one, isn't written
 abbrev pub part_halt : Asked → Bool → List Said → Cut → Option ℕ → Option Halt
 part_halt asked strict past cut until =
-    or_else (of_document (part_processor asked) (next_number cut) (part_limit_fault asked strict cut (part_of asked past cut until)))
+    or_else (of_document (part_processor asked) (next_number cut) (part_limit asked strict cut (part_of asked past cut until)))
     (of_text (part_processor asked) (next_number cut) (part_text asked past cut until))
 
 -- # Pieces of the text
@@ -115,11 +114,10 @@ first_of (judged ∷ jobs) = Some judged
 abbrev pub open_longest : Asked → List Said → List Judged → Option Judged
 open_longest asked past waiting = or_else (find (λ judged. not (is_settled asked past judged)) waiting) (first_of waiting)
 
--- Without a wake-up of a task nothing is written, and that is said then.
 abbrev pub waiting_halt : Asked → List Said → Cut → Option Halt
 waiting_halt asked past cut =
-    if not (is_due past && is_too_much (waiting asked past cut) (others_from asked past cut.boundary)) then None
-    else (if may_write asked past then no_place (open_longest asked past (waiting asked past cut)) else Some (AtLine (length past) causes.NoWakeUp))
+    if is_due past && is_too_much (waiting asked past cut) (others_from asked past cut.boundary)
+    then no_place (open_longest asked past (waiting asked past cut)) else None
 
 -- # Behind a line
 
@@ -180,7 +178,7 @@ has_written asked past cut = nat_lt 0 cut.jobs || nat_lt 0 (length (part_of aske
 abbrev pub no_job_halt : Asked → List Said → List ℕ → Option Halt
 no_job_halt asked past processors =
     if asked.everywhere && not (list_any (λ processor. has_written (on processor asked) past (cut_after (on processor asked) past)) processors)
-    then Some (OfDocument None 1 faults.NoJobAnywhere) else None
+    then Some (OfDocument None 1 (Beyond faults.NoJobAnywhere)) else None
 
 abbrev pub in_form : Option (Fault Reason) → Option Halt
 in_form None = None

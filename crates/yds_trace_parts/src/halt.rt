@@ -6,7 +6,7 @@ use base::Memory;
 use std::alloc::AllocError;
 use yds_kernel::LineFault;
 use yds_port::WriteFault;
-use yds_trace::Cause;
+use yds_trace::{Cause, Reason};
 use yds_trace_document::DocumentFault;
 use yds_trace_reading::NoBegin;
 use yds_trace_text::NoText;
@@ -30,6 +30,16 @@ pub enum Halt {
         processor: Option<u64>,
         part: u64,
         fault: DocumentFault,
+    },
+    /// In the part of this number it isn't known of the judged job at this place, counted from 0, whether it is late: what a
+    /// document would call it, and why it doesn't stand as it is, if it doesn't. It is one of this processor, where each has
+    /// documents of its own.
+    NotKnown {
+        processor: Option<u64>,
+        part: u64,
+        place: usize,
+        name: Vec<u8>,
+        reason: Option<Reason>,
     },
     /// The text of the part of this number is longer than a document may be. It is one of this processor, where each has
     /// documents of its own.
@@ -116,6 +126,17 @@ impl Halt {
                 processor,
                 part,
                 fault,
+            },
+            NoText::NotKnown {
+                place,
+                name,
+                reason,
+            } => Halt::NotKnown {
+                processor,
+                part,
+                place,
+                name,
+                reason,
             },
             NoText::TooLong => Halt::TooLong { processor, part },
             NoText::Memory => Halt::Memory,

@@ -1,5 +1,5 @@
 //! What is written of a processor behind a line, and its last part.
-ghost use Rattle.std.specs.Prelude.{◌≡◌, ◌≤◌, List, [], length, Bool, true, false, None, Some, IfOk, IfErr, count_by};
+ghost use Rattle.std.specs.Prelude.{◌≡◌, ◌≤◌, List, [], Bool, true, None, Some, IfOk, IfErr, count_by};
 ghost use Rattle.yds_kernel.specs.Event as trace;
 ghost use Rattle.yds_kernel.specs.Parts.{capped};
 ghost use Rattle.yds_trace.specs.Asked as asking;
@@ -16,7 +16,7 @@ ghost use Rattle.yds_trace_parts.specs.Telling.{IsHaltFor, IsText, text_alone, I
 use crate::halt::Halt;
 use crate::place::{is_much, is_too_much, is_written, open_longest, place_among};
 use std::alloc::Global;
-use yds_trace::{Asked, Cause, Cut, Shown};
+use yds_trace::{Asked, Cut, Shown};
 use yds_trace_document::{Judged, Part, Waiting, judge_waiting, settle_part};
 use yds_trace_text::part_text;
 
@@ -36,28 +36,23 @@ pub(crate) struct Last {
     pub has_job: bool,
 }
 
-/// What is written behind the line of this number, where it is looked for a part.
+/// What is written behind a line where it is looked for a part.
 pub(crate) fn next_piece(
     alloc: Global,
     asked: &Asked,
     shown: &Shown,
-    may_write: bool,
     cut: Cut,
     strict: bool,
-    number: u64,
 ) -> Result<Piece, Halt>
     requires { kept.IsPlainShown asked.now shown.now }
-    ensures made { (past : List trace.Said) → IsShared (asked_read asked.now) past cut.boundary shown.now → number ≡ length past
-        → parts.is_due past ≡ true → may_write ≡ parts.may_write (asked_read asked.now) past → IfOk result (IsPiece (asked_read asked.now) strict past cut) }
-    ensures halts { (past : List trace.Said) → IsShared (asked_read asked.now) past cut.boundary shown.now → number ≡ length past
-        → parts.is_due past ≡ true → may_write ≡ parts.may_write (asked_read asked.now) past → IfErr result (HaltsBehind (asked_read asked.now) strict past cut) }
+    ensures made { (past : List trace.Said) → IsShared (asked_read asked.now) past cut.boundary shown.now
+        → parts.is_due past ≡ true → IfOk result (IsPiece (asked_read asked.now) strict past cut) }
+    ensures halts { (past : List trace.Said) → IsShared (asked_read asked.now) past cut.boundary shown.now
+        → parts.is_due past ≡ true → IfErr result (HaltsBehind (asked_read asked.now) strict past cut) }
 {
     let waiting = judge_waiting(alloc, asked, shown, cut.boundary)?;
     if !is_much(&waiting) {
         return Ok(no_piece(alloc, cut));
-    }
-    if !may_write {
-        return without_wake_up(alloc, number, &waiting, cut);
     }
     place_piece(alloc, asked, shown, waiting, cut, strict)
 }
@@ -70,28 +65,6 @@ fn no_piece(alloc: Global, cut: Cut) -> Piece
     Piece {
         text: Vec::new(alloc),
         cut,
-    }
-}
-
-/// That too much waits, where no task has been woken.
-fn without_wake_up(
-    alloc: Global,
-    number: u64,
-    waiting: &Waiting<'_>,
-    cut: Cut,
-) -> Result<Piece, Halt>
-    ensures made { (asked : asking.Asked) (strict : Bool) (past : List trace.Said) → IsWaiting asked past cut waiting.now
-        → parts.may_write asked past ≡ false → IfOk result (IsPiece asked strict past cut) }
-    ensures halts { (asked : asking.Asked) (strict : Bool) (past : List trace.Said) → IsWaiting asked past cut waiting.now
-        → parts.may_write asked past ≡ false → parts.is_due past ≡ true → number ≡ length past → IfErr result (HaltsBehind asked strict past cut) }
-{
-    if is_too_much(waiting) {
-        Err(Halt::AtLine {
-            number,
-            cause: Cause::NoWakeUp,
-        })
-    } else {
-        Ok(no_piece(alloc, cut))
     }
 }
 
@@ -195,17 +168,15 @@ pub(crate) fn without_job(
     alloc: Global,
     asked: &Asked,
     shown: &Shown,
-    may_write: bool,
     cut: Cut,
 ) -> Result<Cut, Halt>
     requires { kept.IsPlainShown asked.now shown.now }
     ensures made { (past : List trace.Said) → IsShared (asked_read asked.now) past cut.boundary shown.now → parts.is_due past ≡ true
-        → may_write ≡ parts.may_write (asked_read asked.now) past
         → IfOk result (λ next. next ≡ without_job_at past cut (parts.place_of (asked_read asked.now) past cut)) }
     ensures halts { IfErr result (IsHaltFor None) }
 {
     let waiting = judge_waiting(alloc, asked, shown, cut.boundary)?;
-    if !may_write || !is_much(&waiting) {
+    if !is_much(&waiting) {
         return Ok(cut);
     }
     match place_among(asked, shown, &waiting.judged) {

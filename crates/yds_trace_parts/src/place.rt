@@ -58,16 +58,6 @@ fn last_asked(asked: &Asked, shown: &Shown) -> u64
     }
 }
 
-/// The begin of the last job of the task of this number.
-fn last_begin(shown: &Shown, number: usize) -> u64
-    ensures { result ≡ spec.last_begin_of shown.now number }
-{
-    match shown.tasks.get(number) {
-        Some(task) => task.last_begin,
-        None => 0,
-    }
-}
-
 /// How soon after a job's begin a wake-up goes on with it, for the task of this number.
 fn apart_of(asked: &Asked, number: usize) -> u64
     ensures { result ≡ (task_at (asked_read asked.now) number).apart }
@@ -78,15 +68,14 @@ fn apart_of(asked: &Asked, number: usize) -> u64
     }
 }
 
-/// Whether a job is over: its end is known, or nothing more will be known of it.
-fn is_over(last: u64, followed: bool, end: End) -> bool
-    ensures { result ≡ parts.is_over last followed end }
+/// Whether a job that is due at this time is over: its end is known, or nothing more will be known of it.
+fn is_over(last: u64, due: u64, end: End) -> bool
+    ensures { result ≡ parts.is_over last due end }
 {
     match end {
         End::Open => false,
         End::Ended(_) => true,
-        End::Unseen { .. } => followed,
-        End::Lost(since) => since < last,
+        End::Lost(since) => since < last && due <= last,
     }
 }
 
@@ -95,8 +84,7 @@ fn is_settled(asked: &Asked, shown: &Shown, judged: &Judged<'_>) -> bool
     ensures { result ≡ spec.is_settled (asked_read asked.now) shown.now (judged_read judged.now) }
 {
     let begin = judged.job.begin;
-    let followed = begin < last_begin(shown, judged.task);
-    is_over(last_asked(asked, shown), followed, judged.job.end)
+    is_over(last_asked(asked, shown), judged.due, judged.job.end)
         && begin <= shown.last
         && apart_of(asked, judged.task) <= shown.last - begin
 }
@@ -152,7 +140,7 @@ fn done_from(settled: bool, judged: &Judged<'_>) -> Option<u64>
     }
     match judged.job.end {
         End::Ended(end) => Some(end),
-        End::Open | End::Unseen { .. } | End::Lost(_) => None,
+        End::Open | End::Lost(_) => None,
     }
 }
 

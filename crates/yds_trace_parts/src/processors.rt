@@ -94,23 +94,22 @@ fn grow_to(processors: &mut Vec<Processor>, cut: Cut, last: u64) -> Result<(), A
     Ok(())
 }
 
-/// What is written of these processors behind the line of this number, where it is looked for parts.
+/// What is written of these processors behind a line where it is looked for parts.
 pub(crate) fn next_pieces(
     alloc: Global,
     pass: &mut Pass,
     processors: &[Processor],
     shown: &Shown,
     strict: bool,
-    number: u64,
 ) -> Result<Pieces, Halt>
     requires { IsPlainLook pass.old shown.now }
     ensures turned { (asked : asking.Asked) (past : List trace.Said) (boundary : ℕ) → IsAtBehind asked past boundary pass.old
         → OnOk result (spec.IsTurned asked past boundary pass.new) }
     ensures made { (asked : asking.Asked) (past : List trace.Said) (boundary : ℕ) → IsAtBehind asked past boundary pass.old → IsShown asked past boundary shown.now
-        → spec.NoneEndsBefore boundary (spec.cuts_of processors.now None) → number ≡ length past → parts.is_due past ≡ true
+        → spec.NoneEndsBefore boundary (spec.cuts_of processors.now None) → parts.is_due past ≡ true
         → IfOk result (spec.ArePieces asked strict past processors.now) }
     ensures halts { (asked : asking.Asked) (past : List trace.Said) (boundary : ℕ) → IsAtBehind asked past boundary pass.old → IsShown asked past boundary shown.now
-        → spec.NoneEndsBefore boundary (spec.cuts_of processors.now None) → number ≡ length past → parts.is_due past ≡ true
+        → spec.NoneEndsBefore boundary (spec.cuts_of processors.now None) → parts.is_due past ≡ true
         → IfErr result (spec.IsHaltFor (spec.pieces_at asked strict past processors.now).halt) }
 {
     let mut pieces = Pieces {
@@ -118,7 +117,7 @@ pub(crate) fn next_pieces(
         processors: Vec::new(alloc),
     };
     for one in processors {
-        let piece = piece_on(alloc, pass, *one, shown, strict, number)?;
+        let piece = piece_on(alloc, pass, *one, shown, strict)?;
         pieces.add(one.number, &piece)?;
     }
     Ok(pieces)
@@ -131,24 +130,22 @@ fn piece_on(
     one: Processor,
     shown: &Shown,
     strict: bool,
-    number: u64,
 ) -> Result<Piece, Halt>
     requires { IsPlainLook pass.old shown.now }
     ensures turned { (asked : asking.Asked) (past : List trace.Said) (boundary : ℕ) → IsAtBehind asked past boundary pass.old
         → IsAtBehind (asking.on one.number asked) past boundary pass.new }
     ensures made { (asked : asking.Asked) (past : List trace.Said) (boundary : ℕ) → IsAtBehind asked past boundary pass.old → IsShown asked past boundary shown.now
-        → boundary ≤ one.cut.boundary → number ≡ length past → parts.is_due past ≡ true
+        → boundary ≤ one.cut.boundary → parts.is_due past ≡ true
         → IfOk result (spec.IsPiece (asking.on one.number asked) strict past one.cut) }
     ensures halts { (asked : asking.Asked) (past : List trace.Said) (boundary : ℕ) → IsAtBehind asked past boundary pass.old → IsShown asked past boundary shown.now
-        → boundary ≤ one.cut.boundary → number ≡ length past → parts.is_due past ≡ true
+        → boundary ≤ one.cut.boundary → parts.is_due past ≡ true
         → IfErr result (spec.HaltsBehind (asking.on one.number asked) strict past one.cut) }
 {
     pass.turn_to(one.number);
-    let may_write = pass.may_write();
     let asked = pass.asked();
     let own = shown.shared(alloc, asked)?;
     let shares = own.as_ref().unwrap_or(shown);
-    next_piece(alloc, asked, shares, may_write, one.cut, strict, number)
+    next_piece(alloc, asked, shares, one.cut, strict)
 }
 
 /// What was written of each processor of which no line tells, behind a line where it is looked for parts: none of them has
@@ -193,11 +190,10 @@ fn unseen_on(
     ensures halts { IfErr result (spec.IsHaltFor None) }
 {
     pass.turn_to(processor);
-    let may_write = pass.may_write();
     let asked = pass.asked();
     let own = shown.shared(alloc, asked)?;
     let shares = own.as_ref().unwrap_or(shown);
-    without_job(alloc, asked, shares, may_write, cut)
+    without_job(alloc, asked, shares, cut)
 }
 
 /// The last parts of these processors.

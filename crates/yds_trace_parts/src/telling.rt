@@ -78,7 +78,7 @@ impl Telling {
         if !looks(&self.pass, number) {
             return Ok(Vec::new(alloc));
         }
-        self.write(alloc, number)
+        self.write(alloc)
     }
 
     /// Takes what the line of this number says, and all processors up to the one of which it tells.
@@ -96,26 +96,19 @@ impl Telling {
         Ok(())
     }
 
-    /// Writes the parts that are whole behind the line of this number, where it is looked for parts. It gives their texts.
-    fn write(&mut self, alloc: Global, number: u64) -> Result<Vec<u8>, Halt>
+    /// Writes the parts that are whole behind a line where it is looked for parts. It gives their texts.
+    fn write(&mut self, alloc: Global) -> Result<Vec<u8>, Halt>
         requires { IsPlainPass (told_to_forget self.old.pass) self.old.pass }
         ensures told { (asked : asking.Asked) (strict : Bool) (past : List trace.Said) (said : trace.Said) → IsTaken asked strict past said self.old
-            → number ≡ length past + 1 → parts.is_due (said ∷ past) ≡ true → OnOk result (IsTelling asked strict (said ∷ past) self.new) }
+            → parts.is_due (said ∷ past) ≡ true → OnOk result (IsTelling asked strict (said ∷ past) self.new) }
         ensures adds { (asked : asking.Asked) (strict : Bool) (past : List trace.Said) (said : trace.Said) → IsTaken asked strict past said self.old
-            → number ≡ length past + 1 → parts.is_due (said ∷ past) ≡ true → IfOk result (λ piece. Adds asked strict past (said ∷ past) piece.items) }
+            → parts.is_due (said ∷ past) ≡ true → IfOk result (λ piece. Adds asked strict past (said ∷ past) piece.items) }
         ensures halts { (asked : asking.Asked) (strict : Bool) (past : List trace.Said) (said : trace.Said) → IsTaken asked strict past said self.old
-            → number ≡ length past + 1 → parts.is_due (said ∷ past) ≡ true → IfErr result (IsHaltFor (told_after asked strict (said ∷ past)).halt) }
+            → parts.is_due (said ∷ past) ≡ true → IfErr result (IsHaltFor (told_after asked strict (said ∷ past)).halt) }
     {
         let shown = self.pass.shown(alloc)?;
         let processor = self.pass.asked().processor;
-        let pieces = next_pieces(
-            alloc,
-            &mut self.pass,
-            &self.processors,
-            &shown,
-            self.strict,
-            number,
-        )?;
+        let pieces = next_pieces(alloc, &mut self.pass, &self.processors, &shown, self.strict)?;
         let next = pieces.processors.len() as u64;
         let unseen = unseen_behind(alloc, &mut self.pass, self.unseen, next, &shown)?;
         self.pass.turn_to(processor);

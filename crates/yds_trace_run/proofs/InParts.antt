@@ -1,5 +1,6 @@
 -- A trace that was told in parts to its end was told as its parts: none of its lines is refused, and none of the parts passes a limit.
 use Rattle.yds_model.proofs.Common.{◌≡◌, ℕ, ◌+◌, ◌≤◌, List, [], ◌∷◌, ◌++◌, map, length, flat_map, flat_map-append, append-nil, All, All-append, All-cons, All-nil, Bool, true, false, nat_lt, ltb-false, if◌then◌else◌, Option, Some, None, refl, sym, ap, ap₂, subst, ◌∙◌}
+use Rattle.std.specs.Prelude.{option_map}
 use Rattle.base.specs.declared.limits.TheConstants.{MAX_INPUT}
 use Rattle.base.specs.Fields.{Fault}
 use Rattle.yds_kernel.specs.declared.fault.Reason.{Reason}
@@ -15,6 +16,7 @@ use Rattle.yds_trace.specs.Parts.{cut_after, part_until, parts_fault, place_of, 
 use Rattle.yds_trace_laws.proofs.Begins.{or_none}
 use Rattle.yds_trace_document.specs.declared.fault.DocumentFault.{DocumentFault}
 use Rattle.yds_trace_document.specs.Part.{part_of, part_limit_fault}
+use Rattle.yds_trace_text.specs.Limit.{limit_of, part_limit}
 use Rattle.yds_trace_text.specs.PartText.{part_text}
 use Rattle.yds_trace_reading.specs.LineFault.{past_of}
 use Rattle.yds_trace_parts.specs.Told.{Halt, OfText, at_line, line_halt, next_number, part_processor, of_document, of_text, part_halt, both, piece_unless, part_piece, piece_with, piece_at, piece_of, pieces, told_with, told_next, told_after, last_pieces, no_job_halt, last_piece, end_halt, told_last, told_at_end, told_of}
@@ -26,9 +28,9 @@ no_cause : (number : ℕ) (cause : Option Cause) → at_line number cause ≡ No
 no_cause number None none = refl
 no_cause number (Some cause) none = cc
 
-no_limit : (processor : Option ℕ) (part : ℕ) (limit : Option DocumentFault) → of_document processor part limit ≡ None → limit ≡ None
-no_limit processor part None none = refl
-no_limit processor part (Some fault) none = cc
+no_limit : (processor : Option ℕ) (part : ℕ) (judged : List Judged) (fault : Option DocumentFault) → of_document processor part (option_map (limit_of judged) fault) ≡ None → fault ≡ None
+no_limit processor part judged None none = refl
+no_limit processor part judged (Some fault) none = cc
 
 not_long : (processor : Option ℕ) (part : ℕ) (text : List ℕ) → of_text processor part text ≡ None → length text ≤ MAX_INPUT
 not_long processor part text none = by (nat_lt MAX_INPUT (length text)) refl none
@@ -72,8 +74,8 @@ both_put asked strict one more text None later None first second goes_on = joine
 may_stand : (asked : Asked) (strict : Bool) (past : List Said) (cut : Cut) (until : Option ℕ) → part_halt asked strict past cut until ≡ None
     → MayStand asked strict (made asked past cut until)
 may_stand asked strict past cut until none =
-    let parts = or_none (of_document (part_processor asked) (next_number cut) (part_limit_fault asked strict cut (part_of asked past cut until))) (of_text (part_processor asked) (next_number cut) (part_text asked past cut until)) none in (
-      no_limit (part_processor asked) (next_number cut) (part_limit_fault asked strict cut (part_of asked past cut until)) parts.0,
+    let parts = or_none (of_document (part_processor asked) (next_number cut) (part_limit asked strict cut (part_of asked past cut until))) (of_text (part_processor asked) (next_number cut) (part_text asked past cut until)) none in (
+      no_limit (part_processor asked) (next_number cut) (part_of asked past cut until).judged (part_limit_fault asked strict cut (part_of asked past cut until)) parts.0,
       not_long (part_processor asked) (next_number cut) (part_text asked past cut until) parts.1,
     )
 

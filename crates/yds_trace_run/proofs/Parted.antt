@@ -15,6 +15,7 @@ use Rattle.yds_trace_reading.specs.LineFault.{past_of}
 use Rattle.yds_trace_reading.specs.Reading.{IsReadOut}
 use Rattle.yds_trace_parts.specs.declared.halt.Halt.{Halt as HaltKept}
 use Rattle.yds_trace_parts.specs.declared.halt.Halt.TheVariants as halts
+use Rattle.yds_trace_text.specs.Limit.{Beyond, NotKnown}
 use Rattle.yds_trace_parts.specs.Told.{Halt, InForm, AtLine, OfDocument, OfText, NoPlace, told_after, told_in_text}
 use Rattle.yds_trace_parts.specs.Flushing.{count_on, times_told}
 use Rattle.yds_trace_parts.specs.Driving.{WritesSome, WritesIn, Writes as WritesParts}
@@ -131,7 +132,9 @@ module _ (asked : Asked) (bounds : Bounds) (strict : Bool) (bytes : List ℕ) (t
     halted_so unread (halts.AtLine number cause) ended old mid new drives tells =
         refused_so unread (AtLine number cause) ended (written old) (written mid) (written new) (flushed new) drives.told drives.appended tells.outcome
     halted_so unread (halts.Limit processor part fault) ended old mid new drives tells =
-        refused_so unread (OfDocument processor part fault) ended (written old) (written mid) (written new) (flushed new) drives.told drives.appended tells.outcome
+        refused_so unread (OfDocument processor part (Beyond fault)) ended (written old) (written mid) (written new) (flushed new) drives.told drives.appended tells.outcome
+    halted_so unread (halts.NotKnown processor part place name reason) ended old mid new drives tells =
+        refused_so unread (OfDocument processor part (NotKnown place name.items reason)) ended (written old) (written mid) (written new) (flushed new) drives.told drives.appended tells.outcome
     halted_so unread (halts.TooLong processor part) ended old mid new drives tells =
         refused_so unread (OfText processor part) ended (written old) (written mid) (written new) (flushed new) drives.told drives.appended tells.outcome
     halted_so unread (halts.NoPlace name begin late) ended old mid new drives tells =
@@ -189,6 +192,7 @@ module _ (asked : Asked) (bounds : Bounds) (strict : Bool) (bytes : List ℕ) (t
     lost_so unread (halts.InForm number fault) ended old mid new drives tells = absurd drives
     lost_so unread (halts.AtLine number cause) ended old mid new drives tells = absurd drives
     lost_so unread (halts.Limit processor part fault) ended old mid new drives tells = absurd drives
+    lost_so unread (halts.NotKnown processor part place name reason) ended old mid new drives tells = absurd drives
     lost_so unread (halts.TooLong processor part) ended old mid new drives tells = absurd drives
     lost_so unread (halts.NoPlace name begin late) ended old mid new drives tells = absurd drives
     lost_so unread halts.WriteFault ended old mid new drives tells = absurd drives
@@ -237,6 +241,7 @@ write_failed halts.WriteFault = inl refl
 write_failed (halts.InForm number fault) = inr (λ same. absurd cc)
 write_failed (halts.AtLine number cause) = inr (λ same. absurd cc)
 write_failed (halts.Limit processor part fault) = inr (λ same. absurd cc)
+write_failed (halts.NotKnown processor part place name reason) = inr (λ same. absurd cc)
 write_failed (halts.TooLong processor part) = inr (λ same. absurd cc)
 write_failed (halts.NoPlace name begin late) = inr (λ same. absurd cc)
 write_failed halts.NoFirst = inr (λ same. absurd cc)
@@ -248,6 +253,7 @@ status_not_done : (halt : HaltKept) → halted_status halt ≢ statuses.Done
 status_not_done (halts.InForm number fault) done = absurd cc
 status_not_done (halts.AtLine number cause) done = absurd cc
 status_not_done (halts.Limit processor part fault) done = absurd cc
+status_not_done (halts.NotKnown processor part place name reason) done = absurd cc
 status_not_done (halts.TooLong processor part) done = absurd cc
 status_not_done (halts.NoPlace name begin late) done = absurd cc
 status_not_done halts.NoFirst done = absurd cc
@@ -260,6 +266,7 @@ status_of_read : (halt : HaltKept) → halted_status halt ≡ statuses.ReadFault
 status_of_read (halts.InForm number fault) is = absurd cc
 status_of_read (halts.AtLine number cause) is = absurd cc
 status_of_read (halts.Limit processor part fault) is = absurd cc
+status_of_read (halts.NotKnown processor part place name reason) is = absurd cc
 status_of_read (halts.TooLong processor part) is = absurd cc
 status_of_read (halts.NoPlace name begin late) is = absurd cc
 status_of_read halts.NoFirst is = absurd cc
@@ -327,6 +334,7 @@ module _ {K : Type 0} (written : K → Option (List ℕ)) (flushed : K → Optio
   other_halt unread (halts.InForm number fault) ended mid new other tells = tells
   other_halt unread (halts.AtLine number cause) ended mid new other tells = tells
   other_halt unread (halts.Limit processor part fault) ended mid new other tells = tells
+  other_halt unread (halts.NotKnown processor part place name reason) ended mid new other tells = tells
   other_halt unread (halts.TooLong processor part) ended mid new other tells = tells
   other_halt unread (halts.NoPlace name begin late) ended mid new other tells = tells
   other_halt unread halts.NoFirst ended mid new other tells = tells

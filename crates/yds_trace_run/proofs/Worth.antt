@@ -12,7 +12,7 @@ use Rattle.yds_trace.specs.Asked.{Task, Asked, IsAsked, on}
 use Rattle.yds_trace.specs.Faults.{first_fault}
 use Rattle.yds_trace.specs.Parts.{processors_of}
 use Rattle.yds_trace.proofs.OnProcessor.{first_fault_on}
-use Rattle.yds_trace.specs.Document.{all_judged, units_of, document_of}
+use Rattle.yds_trace.specs.Document.{Judged, all_judged, units_of, document_of}
 use Rattle.yds_trace_laws.proofs.Faithful.{documents_are_faithful}
 use Rattle.yds_trace_laws.proofs.Begins.{or_none}
 use Rattle.yds_trace_document.specs.declared.fault.DocumentFault.{DocumentFault}
@@ -23,6 +23,7 @@ use Rattle.yds_trace_again.specs.Laws.{AreLabelled}
 use Rattle.yds_trace_again.proofs.Again.{read_again as is_read_again}
 use Rattle.yds_trace_again.proofs.Worth.{faithful_read, told_late}
 use Rattle.yds_trace_words.specs.Tasks.{is_label}
+use Rattle.yds_trace_text.specs.Limit.{limit_of, first_limit}
 use Rattle.yds_trace_run.specs.Fault.{OfText, of_document, of_text, document_fault}
 use Rattle.yds_trace_text.specs.Text.{text_of}
 use Rattle.yds_trace_reading.specs.LineFault.{past_of}
@@ -117,9 +118,9 @@ sound_on processor asked past sound = first_fault_on asked processor past ∙ so
 
 -- # It is read again
 
-no_limit : (limit : Option DocumentFault) → of_document limit ≡ None → limit ≡ None
-no_limit None none = refl
-no_limit (Some fault) none = cc
+no_limit : (judged : List Judged) (fault : Option DocumentFault) → of_document (option_map (limit_of judged) fault) ≡ None → fault ≡ None
+no_limit judged None none = refl
+no_limit judged (Some fault) none = cc
 
 not_long : (text : List ℕ) → of_text text ≡ None → length text ≤ MAX_INPUT
 not_long text none = by (nat_lt MAX_INPUT (length text)) refl none
@@ -131,9 +132,9 @@ not_long text none = by (nat_lt MAX_INPUT (length text)) refl none
 document_again : (asked : Asked) (strict : Bool) (past : List Said) (text : List ℕ) → IsFit asked → document_fault asked strict past ≡ None → text ≡ text_of asked past
     → IsReadAgain asked past text
 document_again asked strict past text fit none is =
-    let parts = or_none (of_document (limit_fault strict (settled_of asked past))) (of_text (text_of asked past)) none in
+    let parts = or_none (of_document (first_limit strict (settled_of asked past))) (of_text (text_of asked past)) none in
     subst (IsReadAgain asked past) (sym is)
-    (is_read_again asked strict past fit.plain (labelled asked.tasks fit.labels fit.different) (no_limit (limit_fault strict (settled_of asked past)) parts.0)
+    (is_read_again asked strict past fit.plain (labelled asked.tasks fit.labels fit.different) (no_limit (settled_of asked past).judged (limit_fault strict (settled_of asked past)) parts.0)
     (not_long (text_of asked past) parts.1))
 
 read_so : (in_parts : Bool) (asked : Asked) (strict : Bool) (input text : List ℕ) → IsFit asked → IsTold in_parts asked strict input text statuses.Done

@@ -12,6 +12,7 @@ use Rattle.yds_kernel.specs.Event.{Said}
 use Rattle.yds_trace.specs.declared.ended.Ended.{Ended}
 use Rattle.yds_trace.specs.Asked.{Asked}
 use Rattle.yds_trace.specs.Ended.{IsEnded as KnowsEnd}
+use Rattle.yds_trace_text.specs.Limit.{Beyond, NotKnown}
 use Rattle.yds_trace_text.specs.Text.{text_of}
 use Rattle.yds_trace_reading.specs.declared.stopped.Stopped.{Stopped}
 use Rattle.yds_trace_reading.specs.declared.stopped.Stopped.TheVariants as stops
@@ -99,7 +100,8 @@ stopped_status stops.Memory = statuses.Memory
 abbrev pub halted_text : Unread → Halt → List ℕ
 halted_text unread (halts.InForm number fault) = halt_text (told.InForm (record { line = number; column = fault.column; reason = fault.reason }))
 halted_text unread (halts.AtLine number cause) = halt_text (told.AtLine number cause)
-halted_text unread (halts.Limit processor part fault) = halt_text (told.OfDocument processor part fault)
+halted_text unread (halts.Limit processor part fault) = halt_text (told.OfDocument processor part (Beyond fault))
+halted_text unread (halts.NotKnown processor part place name reason) = halt_text (told.OfDocument processor part (NotKnown place name.items reason))
 halted_text unread (halts.TooLong processor part) = halt_text (told.OfText processor part)
 halted_text unread (halts.NoPlace name begin late) = halt_text (told.NoPlace name.items begin late)
 halted_text unread halts.NoFirst = no_first_text

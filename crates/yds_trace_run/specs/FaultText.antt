@@ -10,6 +10,7 @@ use Rattle.yds_trace_document.specs.declared.fault.LeftOut.{LeftOut}
 use Rattle.yds_trace_document.specs.declared.fault.DocumentFault.{DocumentFault}
 use Rattle.yds_trace_document.specs.declared.fault.DocumentFault.TheVariants as faults
 use Rattle.yds_trace_reading.specs.LineFault.{LineFault, InForm, AtLine}
+use Rattle.yds_trace_text.specs.Limit.{Limit, Beyond, NotKnown}
 use Rattle.yds_trace_text.specs.Text.{in_seconds, in_milliseconds, reason_text}
 use Rattle.yds_trace_parts.specs.Told as told
 use Rattle.yds_trace_words.specs.declared.limits.TheConstants.{MAX_UNIT}
@@ -37,6 +38,8 @@ cause_text causes.ProcessorTooGreat = codes "the number of the processor is abov
 cause_text causes.TimeTooGreat = codes "the time is above 9223372036.854775807 seconds; leave the line out"
 cause_text causes.TimeGoesBack = codes "its time is before that of an earlier line, by more than a millisecond, behind more than 64 lines, or over lost events; sort the lines by their times"
 cause_text causes.EventsLost = codes "events were lost before it; record with a larger buffer, choose --from and --to around it, or go on by --lost cut"
+cause_text causes.LineMissing = codes "a switch of a task is missing before it; record with a larger buffer, or go on by --lost cut"
+cause_text causes.SpeedChanged = codes "it tells another speed than --fixed does; leave out --fixed, or give --start"
 cause_text causes.UnknownState = codes "a task leaves in a state that the kernel doesn't have; write the trace anew"
 cause_text causes.TwoThreads = codes "a task's name is that of another thread before; threads are renamed at their start, too: give the number, which stays, by PID=NAME:DEADLINE"
 cause_text causes.Exited = codes "a task's thread was over before, and its number is that of another thread now; choose --from and --to around it"
@@ -45,8 +48,7 @@ cause_text causes.TwoTasks = codes "one thread is two tasks, by its number and b
 cause_text causes.TooLong = codes "more than 250000 lines tell of the tasks; choose a shorter time by --from and --to, or fewer tasks"
 cause_text causes.NoLine = codes "no line of a kernel's trace; write it as text, by trace-cmd report or perf script with cpu and time among its fields: a line has a processor as [001] and a time with a point as 12.345678: before its event's name"
 cause_text (causes.Unseen number) = codes "no line names task " ++ decimal (number + 1) ++ codes " of --tasks; write its name as the trace has it, a * isn't taken; --tasks '?' lists the threads of the trace"
-cause_text causes.NoWakeUp = codes "no wake-up of a task; record sched_waking too, or let jobs begin at their first run by --begin run"
-cause_text causes.NotWoken = codes "a task comes behind a sleep without a wake-up, twice in one job; record sched_waking, sched_wakeup and sched_wakeup_new, let jobs begin at their first run by --begin run, or go on by --lost cut"
+cause_text causes.NotWoken = codes "a task comes behind a sleep without a wake-up, twice in one job or before any of it; record sched_waking, sched_wakeup and sched_wakeup_new, let jobs begin at their first run by --begin run, or go on by --lost cut"
 cause_text causes.PartWritten = codes "it changes jobs of a part that was written; choose --from and --to around it"
 
 -- # Documents
@@ -78,6 +80,7 @@ remedy lefts.NotEnded = codes "record longer"
 remedy lefts.EventsLost = codes "record with a larger buffer, or choose --from and --to around the loss"
 remedy lefts.SwitchMissing = codes "record the switches of all threads, without a filter"
 remedy lefts.BeginUnseen = codes "record sched_waking, and longer, or give --begin run"
+remedy lefts.DueBefore = codes "choose a smaller unit by --us, or leave PERIOD out"
 remedy lefts.Moved = codes "choose another processor by --cpu, or give --moved parts"
 remedy lefts.SpeedUnknown = codes "give the speed by --start"
 
@@ -102,7 +105,22 @@ document_text (faults.SpeedTooCoarse place) = found_job place (codes ": it ran a
 document_text (faults.SpeedTooGreat place) = found_job place (codes ": it ran at a speed above 1000000 units; choose a greater unit by --khz")
 document_text (faults.NoJob left) = no_job_text left
 document_text faults.NoJobAnywhere = codes "no job can be written of any processor; choose one of them by --cpu, and the reason is told"
+document_text (faults.NotKnown place) = found_job place (codes ": it isn't known whether it is late; record longer")
 document_text (faults.Missed place) = found_job place (codes ": it doesn't stand as it is, or its thread was over with it, and --strict is given; leave that out, or choose --from and --to around the job")
+
+-- why it isn't known whether a job is late, and what to do; one that stands has just no end in the trace
+abbrev pub unsure_text : Option Left → List ℕ
+unsure_text None = codes "its end isn't in the trace); record longer"
+unsure_text (Some reason) = reason_text (Some reason) ++ codes "); " ++ remedy reason
+
+-- A job is told by its name, too, as a comment shows the bytes of a word.
+abbrev pub not_known_text : ℕ → List ℕ → Option Left → List ℕ
+not_known_text place name reason =
+    found_job place (codes ": it isn't known whether " ++ shown_word name ++ codes " is late (" ++ unsure_text reason)
+
+abbrev pub limit_text : Limit → List ℕ
+limit_text (Beyond fault) = document_text fault
+limit_text (NotKnown place name reason) = not_known_text place name reason
 
 abbrev pub line_text : LineFault → List ℕ
 line_text (InForm fault) = codes "line " ++ decimal fault.line ++ codes ", column " ++ decimal fault.column ++ codes ": " ++ form_text fault.reason
@@ -110,7 +128,7 @@ line_text (AtLine number cause) = codes "line " ++ decimal number ++ codes ": " 
 
 abbrev pub fault_text : TraceFault → List ℕ
 fault_text (OfLine fault) = failed (line_text fault)
-fault_text (OfDocument fault) = failed (document_text fault)
+fault_text (OfDocument limit) = failed (limit_text limit)
 fault_text OfText = failed (codes "the document is longer than 8388608 bytes; choose a shorter time by --from and --to")
 
 -- # Parts
@@ -138,7 +156,7 @@ no_place_text name begin late =
 abbrev pub halt_text : told.Halt → List ℕ
 halt_text (told.InForm fault) = failed (line_text (InForm fault))
 halt_text (told.AtLine number cause) = failed (line_text (AtLine number cause))
-halt_text (told.OfDocument processor part fault) = failed (of_part processor part (document_text fault))
+halt_text (told.OfDocument processor part limit) = failed (of_part processor part (limit_text limit))
 halt_text (told.OfText processor part) = failed (of_part processor part (codes "the document is longer than 8388608 bytes; choose fewer tasks, or greater units by --us and --khz"))
 halt_text (told.NoPlace name begin late) = failed (no_place_text name begin late)
 

@@ -1,8 +1,9 @@
 //! The texts of a run that tells no document, or not all parts.
-ghost use Rattle.std.specs.Prelude.{◌≡◌, ◌≤◌, ◌+◌, ◌++◌, codes, drop, length, decimal};
+ghost use Rattle.std.specs.Prelude.{◌≡◌, ◌≤◌, ◌+◌, ◌++◌, codes, drop, length, decimal, Some};
 ghost use Rattle.arrayvec.specs.ArrayString.{array_string_len};
 ghost use Rattle.yds_trace_reading.specs.LineFault.{InForm, AtLine};
-ghost use Rattle.yds_trace_text.specs.Text.{in_seconds, in_milliseconds};
+ghost use Rattle.yds_trace_text.specs.Limit.{Beyond, NotKnown};
+ghost use Rattle.yds_trace_text.specs.Text.{in_seconds, in_milliseconds, reason_text};
 ghost use Rattle.yds_trace_parts.specs.Told.{OfDocument, OfText, NoPlace};
 ghost use Rattle.yds_trace_run.specs.FaultText as spec;
 
@@ -110,6 +111,12 @@ fn push_cause(cause: Cause, line: &mut ArrayString<LINE_BYTES>)
         Cause::EventsLost => line.push_str(
             "events were lost before it; record with a larger buffer, choose --from and --to around it, or go on by --lost cut",
         ),
+        Cause::LineMissing => line.push_str(
+            "a switch of a task is missing before it; record with a larger buffer, or go on by --lost cut",
+        ),
+        Cause::SpeedChanged => line.push_str(
+            "it tells another speed than --fixed does; leave out --fixed, or give --start",
+        ),
         Cause::UnknownState => line.push_str(
             "a task leaves in a state that the kernel doesn't have; write the trace anew",
         ),
@@ -131,11 +138,8 @@ fn push_cause(cause: Cause, line: &mut ArrayString<LINE_BYTES>)
         Cause::NoLine => line.push_str(
             "no line of a kernel's trace; write it as text, by trace-cmd report or perf script with cpu and time among its fields: a line has a processor as [001] and a time with a point as 12.345678: before its event's name",
         ),
-        Cause::NoWakeUp => line.push_str(
-            "no wake-up of a task; record sched_waking too, or let jobs begin at their first run by --begin run",
-        ),
         Cause::NotWoken => line.push_str(
-            "a task comes behind a sleep without a wake-up, twice in one job; record sched_waking, sched_wakeup and sched_wakeup_new, let jobs begin at their first run by --begin run, or go on by --lost cut",
+            "a task comes behind a sleep without a wake-up, twice in one job or before any of it; record sched_waking, sched_wakeup and sched_wakeup_new, let jobs begin at their first run by --begin run, or go on by --lost cut",
         ),
         Cause::PartWritten => line.push_str(
             "it changes jobs of a part that was written; choose --from and --to around it",
@@ -152,6 +156,63 @@ pub(crate) fn document_line(fault: DocumentFault) -> ArrayString<LINE_BYTES>
     push_document(fault, &mut line);
     line.push_str(FAILED);
     line
+}
+
+/// The text for a document with the job of this name, found at a place, of which it isn't known whether it is late.
+pub(crate) fn not_known_line(
+    place: usize,
+    name: &[u8],
+    reason: Option<LeftReason>,
+) -> ArrayString<LINE_BYTES>
+    ensures { result.bytes ≡ spec.failed (spec.not_known_text place name.now reason) }
+{
+    let mut line = ArrayString::new();
+    line.push_str("# ");
+    push_not_known(place, name, reason, &mut line);
+    line.push_str(FAILED);
+    line
+}
+
+/// Of which job it isn't known whether it is late, why, and what to do.
+fn push_not_known(
+    place: usize,
+    name: &[u8],
+    reason: Option<LeftReason>,
+    line: &mut ArrayString<LINE_BYTES>,
+)
+    requires { array_string_len line.old ≤ 70 }
+    ensures text { line.new.bytes ≡ line.old.bytes ++ spec.not_known_text place name.now reason }
+    ensures short { array_string_len line.new ≤ 340 }
+{
+    line.push_str("found job ");
+    push_place(place, line);
+    line.push_str(": it isn't known whether ");
+    push_shown(name, line);
+    line.push_str(" is late (");
+    push_unsure(reason, line);
+}
+
+/// Why it isn't known, and what to do. A job that stands has just no end in the trace.
+fn push_unsure(reason: Option<LeftReason>, line: &mut ArrayString<LINE_BYTES>)
+    requires { array_string_len line.old ≤ 220 }
+    ensures text { line.new.bytes ≡ line.old.bytes ++ spec.unsure_text reason }
+    ensures short { array_string_len line.new ≤ 340 }
+{
+    match reason {
+        None => line.push_str("its end isn't in the trace); record longer"),
+        Some(reason) => push_reason(reason, line),
+    }
+}
+
+/// A reason, and what to do.
+fn push_reason(reason: LeftReason, line: &mut ArrayString<LINE_BYTES>)
+    requires { array_string_len line.old ≤ 220 }
+    ensures text { line.new.bytes ≡ line.old.bytes ++ (reason_text (Some reason) ++ codes "); " ++ spec.remedy reason) }
+    ensures short { array_string_len line.new ≤ 340 }
+{
+    line.push_str(reason_words(reason));
+    line.push_str("); ");
+    line.push_str(remedy(reason));
 }
 
 /// Which limit it is, and what to do.
@@ -195,6 +256,12 @@ fn push_document(fault: DocumentFault, line: &mut ArrayString<LINE_BYTES>)
         DocumentFault::NoJob(left) => push_no_job(left, line),
         DocumentFault::NoJobAnywhere => line.push_str(
             "no job can be written of any processor; choose one of them by --cpu, and the reason is told",
+        ),
+        DocumentFault::NotKnown(place) => push_placed(
+            "found job ",
+            place,
+            ": it isn't known whether it is late; record longer",
+            line,
         ),
         DocumentFault::Missed(place) => push_placed(
             "found job ",
@@ -307,6 +374,7 @@ fn remedy(reason: LeftReason) -> &'static str
         }
         LeftReason::SwitchMissing => "record the switches of all threads, without a filter",
         LeftReason::BeginUnseen => "record sched_waking, and longer, or give --begin run",
+        LeftReason::DueBefore => "choose a smaller unit by --us, or leave PERIOD out",
         LeftReason::Moved => "choose another processor by --cpu, or give --moved parts",
         LeftReason::SpeedUnknown => "give the speed by --start",
     }
@@ -318,10 +386,26 @@ pub(crate) fn part_line(
     part: u64,
     fault: DocumentFault,
 ) -> ArrayString<LINE_BYTES>
-    ensures { result.bytes ≡ spec.halt_text (OfDocument processor part fault) }
+    ensures { result.bytes ≡ spec.halt_text (OfDocument processor part (Beyond fault)) }
 {
     let mut line = part_front(processor, part);
     push_document(fault, &mut line);
+    line.push_str(FAILED);
+    line
+}
+
+/// The text for a part with the job of this name, found at a place, of which it isn't known whether it is late.
+pub(crate) fn not_known_part_line(
+    processor: Option<u64>,
+    part: u64,
+    place: usize,
+    name: &[u8],
+    reason: Option<LeftReason>,
+) -> ArrayString<LINE_BYTES>
+    ensures { result.bytes ≡ spec.halt_text (OfDocument processor part (NotKnown place name.now reason)) }
+{
+    let mut line = part_front(processor, part);
+    push_not_known(place, name, reason, &mut line);
     line.push_str(FAILED);
     line
 }

@@ -17,7 +17,7 @@ ghost use Rattle.yds_trace_run.specs.Worth.{HoldsWithin, OfTrace, OfAppended, Is
 use crate::delivery::deliver;
 use crate::fault_text::{
     MEMORY, NO_FIRST, TEXT_TOO_LONG, TOO_LONG, cause_line, document_line, form_line,
-    long_part_line, part_line, place_line,
+    long_part_line, not_known_line, not_known_part_line, part_line, place_line,
 };
 use arrayvec::ArrayString;
 use std::alloc::Global;
@@ -252,6 +252,16 @@ fn tell_halt<K: Sink>(halt: &Halt, unread: Unread<'_>, sink: &mut K) -> Status
             part,
             fault,
         } => refuse(&part_line(*processor, *part, *fault), sink),
+        Halt::NotKnown {
+            processor,
+            part,
+            place,
+            name,
+            reason,
+        } => refuse(
+            &not_known_part_line(*processor, *part, *place, name, *reason),
+            sink,
+        ),
         Halt::TooLong { processor, part } => refuse(&long_part_line(*processor, *part), sink),
         Halt::NoPlace { name, begin, late } => refuse(&place_line(name, *begin, *late), sink),
     }
@@ -286,6 +296,13 @@ fn tell<K: Sink>(alloc: Global, ended: &Ended, strict: bool, sink: &mut K) -> St
     match document_text(alloc, ended, strict) {
         Ok(text) => deliver(&text, Status::Done, sink),
         Err(NoText::Limit(fault)) => refuse(&document_line(fault), sink),
+        Err(
+            NoText::NotKnown {
+                place,
+                name,
+                reason,
+            },
+        ) => refuse(&not_known_line(place, &name, reason), sink),
         Err(NoText::TooLong) => deliver(TEXT_TOO_LONG, Status::Refused, sink),
         Err(NoText::Memory) => deliver(MEMORY, Status::Memory, sink),
     }

@@ -53,6 +53,7 @@ fn asked(alloc: Global, everywhere: bool) -> Result<Asked, AllocError>
         thread: Which::Named(b"t".to_vec(alloc)?),
         deadline: 10_000,
         apart: 0,
+        period: 0,
     };
     Ok(Asked {
         tasks: vec![in alloc; task]?,

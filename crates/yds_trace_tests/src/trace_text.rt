@@ -2,7 +2,8 @@
 use std::alloc::{AllocError, Global};
 use std::test::Fail;
 use yds_trace::{
-    Asked, Cut, End, Ended, Job, Pause, Shown, ShownTask, Span, Start, Stretch, Tally, Task, Which,
+    Asked, Cut, End, Ended, Job, Pause, Shown, ShownTask, Silence, Span, Start, Stretch, Tally,
+    Task, Which,
 };
 use yds_trace_document::{DocumentFault, is_plain, is_plain_shown, judge_waiting, settle_part};
 use yds_trace_text::{NoText, document_text, part_text};
@@ -27,10 +28,12 @@ run t.1 200 320 100
 # left out: t.3 (ran on another processor)
 # 2 stretches within one unit of time, 0.004001 ms together, are in no run
 # 2 wake-ups came while their job was open, the most of t.1: 2
+# t: 5 begins, 2.000000 ms apart in the mean, a deadline of 1.000000 ms: a period would tell frames that fall behind
 # places where events were lost: 3
 # switches of other threads that are missing: 448
 # lines that programs wrote into the trace: 12
 # no line for 60.001000000 s, from 100.001000000 s on: did the clock jump?
+# no line of CPU 1 for 2.000000001 s, from 5121.400623456 s on to the end: what it did then isn't known
 # 4 jobs written, 1 left out, 1 late without its runs
 ";
 
@@ -44,11 +47,13 @@ ticks 1
 # begins: t.4 200
 # left out: t.3 (ran on another processor)
 # 1 stretch within one unit of time, 0.000001 ms together, is in no run
+# t: 2 begins, 2.000000 ms apart in the mean, a deadline of 1.000000 ms: a period would tell frames that fall behind
 # other sh-9 0 20
 # places where events were lost, up to here: 3
 # switches of other threads that are missing, up to here: 448
 # lines that programs wrote into the trace, up to here: 12
 # up to here, no line for 60.001000000 s, from 100.001000000 s on: did the clock jump?
+# up to here, no line of CPU 1 for 2.000000001 s, from 5121.400623456 s on: what it did then isn't known
 # 1 job written, 1 left out
 ";
 
@@ -65,6 +70,7 @@ run t.3 0 10 100
 # switches of other threads that are missing, up to here: 448
 # lines that programs wrote into the trace, up to here: 12
 # up to here, no line for 60.001000000 s, from 100.001000000 s on: did the clock jump?
+# up to here, no line of CPU 1 for 2.000000001 s, from 5121.400623456 s on: what it did then isn't known
 # 1 job written, none left out
 ";
 
@@ -88,14 +94,24 @@ const TALLY: Tally = Tally {
         since: 100_001_000_000,
         lasted: 60_001_000_000,
     },
+    silence: Silence {
+        processor: 1,
+        since: 5_121_400_623_456,
+        lasted: 2_000_000_001,
+    },
 };
 
-/// What one lacks that is whole, and in which no line came for a second.
+/// What one lacks that is whole, and in which no line came for a second, and none of a processor for its last one.
 const NOTHING: Tally = Tally {
     losses: 0,
     missing: 0,
     markers: 0,
     pause: Pause {
+        since: 100_001_000_000,
+        lasted: 1_000_000_000,
+    },
+    silence: Silence {
+        processor: 1,
         since: 100_001_000_000,
         lasted: 1_000_000_000,
     },
@@ -116,6 +132,7 @@ fn job(from: u32, to: u32, stretches: Vec<Stretch>) -> Job {
     Job {
         begin: BEGIN + u64::from(from),
         begin_known: true,
+        due_from: BEGIN + u64::from(from),
         end: End::Ended(BEGIN + u64::from(to)),
         stretches,
         wake_ups: 0,
@@ -143,6 +160,7 @@ fn asked(alloc: Global) -> Result<Asked, AllocError> {
         thread: Which::Numbered(7),
         deadline: 1_000_000,
         apart: 0,
+        period: 0,
     };
     let mut tasks = Vec::new(alloc);
     tasks.push(task)?;
@@ -280,7 +298,6 @@ fn shown(alloc: Global) -> Result<Shown, AllocError> {
         forgotten: 2,
         before: false,
         jobs,
-        last_begin: BEGIN + 8_000_000,
     })?;
     let mut others = Vec::new(alloc);
     others.push(span(alloc, b"sh", 4_900_000, 6_200_000)?)?;

@@ -41,23 +41,27 @@ fn words_ask(rt: HostRuntime) -> Result<(), Fail> {
         ("--cpu 1 --version", "version"),
         (
             "--tasks a:16.667:2 --cpu=3 --strict --from 1.5 --to 9223372036.854775807 --start 600000 --begin run --lost=cut --us 1 --khz 7 --parts",
-            "Asked { tasks: [Task { label: [97], thread: Named([97]), deadline: 16667000, apart: 2000000 }], processor: 3, unit: 1000, khz: 7, start: Same(600000), from: None, to: None, begin_at_run: true, cut_losses: true, in_parts: true, everywhere: false, moved_parts: false, others: None } Bounds { from: Some(Clock(1500000000)), to: Some(Clock(9223372036854775807)) } true",
+            "Asked { tasks: [Task { label: [97], thread: Named([97]), deadline: 16667000, apart: 2000000, period: 0 }], processor: 3, unit: 1000, khz: 7, start: Same(600000), from: None, to: None, begin_at_run: true, cut_losses: true, in_parts: true, everywhere: false, moved_parts: false, others: None } Bounds { from: Some(Clock(1500000000)), to: Some(Clock(9223372036854775807)) } true",
         ),
         (
             "--tasks 7=a\\,b:1,c\\:\\d\\\\:0.01",
-            "Asked { tasks: [Task { label: [97, 44, 98], thread: Numbered(7), deadline: 1000000, apart: 0 }, Task { label: [99, 58, 92, 100, 92], thread: Named([99, 58, 92, 100, 92]), deadline: 10000, apart: 0 }], processor: 0, unit: 10000, khz: 10000, start: Listed([]), from: None, to: None, begin_at_run: false, cut_losses: false, in_parts: false, everywhere: false, moved_parts: false, others: None } Bounds { from: None, to: None } false",
+            "Asked { tasks: [Task { label: [97, 44, 98], thread: Numbered(7), deadline: 1000000, apart: 0, period: 0 }, Task { label: [99, 58, 92, 100, 92], thread: Named([99, 58, 92, 100, 92]), deadline: 10000, apart: 0, period: 0 }], processor: 0, unit: 10000, khz: 10000, start: Listed([]), from: None, to: None, begin_at_run: false, cut_losses: false, in_parts: false, everywhere: false, moved_parts: false, others: None } Bounds { from: None, to: None } false",
         ),
         (
             "--cpu all --tasks a:1",
-            "Asked { tasks: [Task { label: [97], thread: Named([97]), deadline: 1000000, apart: 0 }], processor: 0, unit: 10000, khz: 10000, start: Listed([]), from: None, to: None, begin_at_run: false, cut_losses: false, in_parts: true, everywhere: true, moved_parts: false, others: None } Bounds { from: None, to: None } false",
+            "Asked { tasks: [Task { label: [97], thread: Named([97]), deadline: 1000000, apart: 0, period: 0 }], processor: 0, unit: 10000, khz: 10000, start: Listed([]), from: None, to: None, begin_at_run: false, cut_losses: false, in_parts: true, everywhere: true, moved_parts: false, others: None } Bounds { from: None, to: None } false",
         ),
         (
             "--others=spans --tasks a:1 --moved parts --cpu 5 --from=+0.5 --to 0.25",
-            "Asked { tasks: [Task { label: [97], thread: Named([97]), deadline: 1000000, apart: 0 }], processor: 5, unit: 10000, khz: 10000, start: Listed([]), from: None, to: None, begin_at_run: false, cut_losses: false, in_parts: false, everywhere: false, moved_parts: true, others: Some(5) } Bounds { from: Some(AfterFirst(500000000)), to: Some(Clock(250000000)) } false",
+            "Asked { tasks: [Task { label: [97], thread: Named([97]), deadline: 1000000, apart: 0, period: 0 }], processor: 5, unit: 10000, khz: 10000, start: Listed([]), from: None, to: None, begin_at_run: false, cut_losses: false, in_parts: false, everywhere: false, moved_parts: true, others: Some(5) } Bounds { from: Some(AfterFirst(500000000)), to: Some(Clock(250000000)) } false",
         ),
         (
             "--start 0:600000,8191:4294967295,4:1 --tasks a:1",
-            "Asked { tasks: [Task { label: [97], thread: Named([97]), deadline: 1000000, apart: 0 }], processor: 0, unit: 10000, khz: 10000, start: Listed([StartSpeed { processor: 0, khz: 600000 }, StartSpeed { processor: 8191, khz: 4294967295 }, StartSpeed { processor: 4, khz: 1 }]), from: None, to: None, begin_at_run: false, cut_losses: false, in_parts: false, everywhere: false, moved_parts: false, others: None } Bounds { from: None, to: None } false",
+            "Asked { tasks: [Task { label: [97], thread: Named([97]), deadline: 1000000, apart: 0, period: 0 }], processor: 0, unit: 10000, khz: 10000, start: Listed([StartSpeed { processor: 0, khz: 600000 }, StartSpeed { processor: 8191, khz: 4294967295 }, StartSpeed { processor: 4, khz: 1 }]), from: None, to: None, begin_at_run: false, cut_losses: false, in_parts: false, everywhere: false, moved_parts: false, others: None } Bounds { from: None, to: None } false",
+        ),
+        (
+            "--fixed 600000 --tasks a:16::20,b:16:15:0.000001",
+            "Asked { tasks: [Task { label: [97], thread: Named([97]), deadline: 16000000, apart: 0, period: 20000000 }, Task { label: [98], thread: Named([98]), deadline: 16000000, apart: 15000000, period: 1 }], processor: 0, unit: 10000, khz: 10000, start: Fixed(600000), from: None, to: None, begin_at_run: false, cut_losses: false, in_parts: false, everywhere: false, moved_parts: false, others: None } Bounds { from: None, to: None } false",
         ),
         ("--tasks ?", "threads"),
     ];
@@ -145,6 +149,22 @@ fn words_are_refused_by_name(rt: HostRuntime) -> Result<(), Fail> {
         (
             "--tasks a:1 --start 0:6:5",
             "# --start, speed 1: no speed; write whole kilohertz from 1 to 4294967295\nfailed\n",
+        ),
+        (
+            "--tasks a:1 --fixed 0",
+            "# --fixed: no speed; write whole kilohertz from 1 to 4294967295\nfailed\n",
+        ),
+        (
+            "--fixed 5 --tasks a:1 --start 5",
+            "# --fixed: given with --start; give one of both\nfailed\n",
+        ),
+        (
+            "--tasks a:16,b:16:",
+            "# --tasks, task 2: no time behind the second colon; write milliseconds, with at most six digits behind the point\nfailed\n",
+        ),
+        (
+            "--tasks a:16::0",
+            "# --tasks, task 1: no time above 0 behind the third colon; write milliseconds, with at most six digits behind the point\nfailed\n",
         ),
         (
             "--tasks ? --from 1",

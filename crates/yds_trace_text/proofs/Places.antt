@@ -86,7 +86,8 @@ left_for wanted reason late = not (is_none reason) && is_none late && is_for wan
 -- a job that is left out is so for one reason
 for_one : (reason : Option Reason) (late : Option ℕ) →
     one (left_for reasons.NotEnded reason late) + one (left_for reasons.EventsLost reason late) + one (left_for reasons.SwitchMissing reason late)
-    + one (left_for reasons.BeginUnseen reason late) + one (left_for reasons.Moved reason late) + one (left_for reasons.SpeedUnknown reason late)
+    + one (left_for reasons.BeginUnseen reason late) + one (left_for reasons.DueBefore reason late) + one (left_for reasons.Moved reason late)
+    + one (left_for reasons.SpeedUnknown reason late)
     + one (left_for reasons.BeforeFrom reason late || left_for reasons.AfterTo reason late)
     ≡ one (not (is_none reason) && is_none late)
 for_one None late = refl
@@ -97,13 +98,15 @@ for_one (Some reasons.NotEnded) None = refl
 for_one (Some reasons.EventsLost) None = refl
 for_one (Some reasons.SwitchMissing) None = refl
 for_one (Some reasons.BeginUnseen) None = refl
+for_one (Some reasons.DueBefore) None = refl
 for_one (Some reasons.Moved) None = refl
 for_one (Some reasons.SpeedUnknown) None = refl
 
 reason_counts : (judged : List Judged) →
     count_by (is_left_out_for reasons.NotEnded) judged + count_by (is_left_out_for reasons.EventsLost) judged
     + count_by (is_left_out_for reasons.SwitchMissing) judged + count_by (is_left_out_for reasons.BeginUnseen) judged
-    + count_by (is_left_out_for reasons.Moved) judged + count_by (is_left_out_for reasons.SpeedUnknown) judged
+    + count_by (is_left_out_for reasons.DueBefore) judged + count_by (is_left_out_for reasons.Moved) judged
+    + count_by (is_left_out_for reasons.SpeedUnknown) judged
     + count_by is_cut_off judged ≡ count_by is_left_out judged
 reason_counts [] = refl
 reason_counts (first ∷ more) =
@@ -115,6 +118,7 @@ reason_counts (first ∷ more) =
       sum_by-cons (counted_by (is_left_out_for reasons.EventsLost)) first more,
       sum_by-cons (counted_by (is_left_out_for reasons.SwitchMissing)) first more,
       sum_by-cons (counted_by (is_left_out_for reasons.BeginUnseen)) first more,
+      sum_by-cons (counted_by (is_left_out_for reasons.DueBefore)) first more,
       sum_by-cons (counted_by (is_left_out_for reasons.Moved)) first more,
       sum_by-cons (counted_by (is_left_out_for reasons.SpeedUnknown)) first more,
       sum_by-cons (counted_by is_cut_off) first more,
@@ -130,6 +134,7 @@ group_counts label judged =
       length-filter (is_left_out_for reasons.EventsLost) judged,
       length-filter (is_left_out_for reasons.SwitchMissing) judged,
       length-filter (is_left_out_for reasons.BeginUnseen) judged,
+      length-filter (is_left_out_for reasons.DueBefore) judged,
       length-filter (is_left_out_for reasons.Moved) judged,
       length-filter (is_left_out_for reasons.SpeedUnknown) judged,
     )

@@ -1,5 +1,5 @@
 -- Lists as they are kept and as they are read.
-use Rattle.base.proofs.Common.{◌≡◌, ℕ, zero, suc, ◌+◌, ◌-◌, ◌<◌, ◌≤◌, List, [], ◌∷◌, ◌++◌, map, reverse, length, get_or, take, ◌∙◌, refl, sym, ap, ap₂, arith, append-nil, append_assoc, flat_map, min, zip}
+use Rattle.base.proofs.Common.{◌≡◌, ℕ, zero, suc, ◌+◌, ◌-◌, ◌<◌, ◌≤◌, List, [], ◌∷◌, ◌++◌, map, reverse, length, length-map, get_or, get_or-map, take, ◌∙◌, refl, sym, ap, ap₂, subst, arith, append-nil, append_assoc, flat_map, min, zip}
 use Rattle.std.proofs.lemmas.List.{reverse-reverse}
 use Rattle.yds_trace.specs.declared.job.Stretch.{Stretch}
 use Rattle.yds_trace_document.specs.declared.judged.Judged.{Judged as JudgedKept}
@@ -32,6 +32,14 @@ last_of_is first (next ∷ more ∷ numbers) d some =
 
 pub last_at : (first : ℕ) (numbers : List ℕ) → 0 < length numbers → last_of first numbers ≡ get_or numbers (length numbers - 1) 0
 last_at first numbers some = last_of_is first numbers 0 some
+
+-- what is made of the item at a place, as it is read
+pub read_at : {A B C : Type 0} (read : A → B) (make : B → C) (xs : List A) (place : ℕ) (d : C) (x : A) → place < length xs → x ≡ get_or xs place x →
+    make (read x) ≡ get_or (map make (map read xs)) place d
+read_at {A} read make xs place d x within is =
+    ap (λ (y : A). make (read y)) is
+    ∙ ap make (sym (get_or-map read xs place x (read x) within))
+    ∙ sym (get_or-map make (map read xs) place (read x) d (subst (λ (n : ℕ). place < n) (sym (length-map xs read)) within))
 
 -- # Texts
 

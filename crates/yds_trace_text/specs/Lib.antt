@@ -2,4 +2,5 @@ pub mod Laws
 pub mod Text
 pub mod PartText
 pub mod Views
+pub mod Limit
 pub mod Writing

@@ -9,6 +9,7 @@ use Rattle.yds_trace.specs.declared.job.Stretch.{Stretch}
 use Rattle.yds_trace.specs.declared.reason.Reason.{Reason}
 use Rattle.yds_trace.specs.declared.reason.Reason.TheVariants as reasons
 use Rattle.yds_trace.specs.declared.tally.Pause.{Pause}
+use Rattle.yds_trace.specs.declared.tally.Silence.{Silence}
 use Rattle.yds_trace.specs.declared.tally.Tally.{Tally}
 use Rattle.yds_trace.specs.Asked.{Task, Asked}
 use Rattle.yds_trace.specs.Jobs.{Job}
@@ -98,6 +99,7 @@ reason_text (Some reasons.NotEnded) = codes "not ended"
 reason_text (Some reasons.EventsLost) = codes "events lost"
 reason_text (Some reasons.SwitchMissing) = codes "a switch is missing"
 reason_text (Some reasons.BeginUnseen) = codes "its begin isn't in the trace"
+reason_text (Some reasons.DueBefore) = codes "due before it begins"
 reason_text (Some reasons.Moved) = codes "ran on another processor"
 reason_text (Some reasons.SpeedUnknown) = codes "frequency not known"
 
@@ -207,7 +209,8 @@ shown_comments units judged = standing_comments units judged ++ thread_comments 
 
 -- in the order in which equal counts are told
 abbrev pub every_reason : List Reason
-every_reason = reasons.NotEnded ∷ reasons.EventsLost ∷ reasons.SwitchMissing ∷ reasons.BeginUnseen ∷ reasons.Moved ∷ reasons.SpeedUnknown ∷ []
+every_reason =
+    reasons.NotEnded ∷ reasons.EventsLost ∷ reasons.SwitchMissing ∷ reasons.BeginUnseen ∷ reasons.DueBefore ∷ reasons.Moved ∷ reasons.SpeedUnknown ∷ []
 
 abbrev pub is_left_out_for : Reason → Judged → Bool
 is_left_out_for reason judged = is_left_out judged && is_for reason judged.reason
@@ -356,8 +359,26 @@ apart_comment task mean = if task.apart == 0 then [] else unit_comment (codes "A
 abbrev pub both_comments : Task → Option ℕ → List ℕ
 both_comments task mean = deadline_comment task mean ++ apart_comment task mean
 
+-- It has no period, and its jobs begin farther apart than its deadline: by more than a hundredth of it, and by no more than a hundred times.
+abbrev pub lacks_period : Task → ℕ → Bool
+lacks_period task mean =
+    (task.period == 0) && nat_lt task.deadline (100 * (mean - task.deadline)) && not (nat_lt (100 * task.deadline) mean)
+
+abbrev pub without_period_comment : Task → ℕ → ℕ → List ℕ
+without_period_comment task number mean =
+    comment (task.label ∷ codes ": " ∷ decimal number ∷ codes " begins, " ∷ in_milliseconds mean ∷ codes " ms apart in the mean, a deadline of "
+    ∷ in_milliseconds task.deadline ∷ codes " ms: a period would tell frames that fall behind" ∷ [])
+
+-- so many begins are known
+unfoldable pub period_comment : Task → ℕ → Option ℕ → List ℕ
+period_comment task number None = []
+period_comment task number (Some mean) = if lacks_period task mean then without_period_comment task number mean else []
+
+abbrev pub begins_comments : Task → List ℕ → List ℕ
+begins_comments task begins = both_comments task (mean_distance begins) ++ period_comment task (length begins) (mean_distance begins)
+
 abbrev pub unit_comments : Task → List Judged → List ℕ
-unit_comments task judged = both_comments task (mean_distance (known_begins judged))
+unit_comments task judged = begins_comments task (known_begins judged)
 
 abbrev pub task_unit_comments : Task × List Judged → List ℕ
 task_unit_comments (task, judged) = unit_comments task judged
@@ -406,12 +427,32 @@ long_comment in_parts pause =
 abbrev pub pause_comment : Bool → Pause → List ℕ
 pause_comment in_parts pause = if is_long pause then long_comment in_parts pause else []
 
+-- Of one processor, and up to the end where no part follows.
+abbrev pub no_line_of_text : Bool → List ℕ
+no_line_of_text in_parts = if in_parts then codes "up to here, no line of CPU " else codes "no line of CPU "
+
+abbrev pub on_to_the_end : Bool → List ℕ
+on_to_the_end in_parts = if in_parts then codes " s on" else codes " s on to the end"
+
+-- more than a second
+abbrev pub is_silent : Silence → Bool
+is_silent silence = nat_lt 1000000000 silence.lasted
+
+abbrev pub silent_comment : Bool → Silence → List ℕ
+silent_comment in_parts silence =
+    comment (no_line_of_text in_parts ∷ decimal silence.processor ∷ codes " for " ∷ in_seconds silence.lasted ∷ codes " s, from "
+    ∷ in_seconds silence.since ∷ on_to_the_end in_parts ∷ codes ": what it did then isn't known" ∷ [])
+
+abbrev pub silence_comment : Bool → Silence → List ℕ
+silence_comment in_parts silence = if is_silent silence then silent_comment in_parts silence else []
+
 abbrev pub tally_comments : Bool → Tally → List ℕ
 tally_comments in_parts tally =
     lack_comment in_parts (codes "places where events were lost") tally.losses
     ++ lack_comment in_parts (codes "switches of other threads that are missing") tally.missing
     ++ lack_comment in_parts (codes "lines that programs wrote into the trace") tally.markers
     ++ pause_comment in_parts tally.pause
+    ++ silence_comment in_parts tally.silence
 
 -- # The last line
 

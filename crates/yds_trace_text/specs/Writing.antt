@@ -11,8 +11,16 @@ use Rattle.yds_trace_document.specs.Limits.{limit_fault}
 use Rattle.yds_trace_document.specs.Part.{shift_of, part_of, part_limit_fault}
 use Rattle.yds_trace_text.specs.declared.fault.NoText.{NoText}
 use Rattle.yds_trace_text.specs.declared.fault.NoText.TheVariants as faults
+use Rattle.yds_trace_text.specs.Limit.{Limit, Beyond, NotKnown, first_limit, part_limit}
 use Rattle.yds_trace_text.specs.Text.{settled_text}
 use Rattle.yds_trace_text.specs.PartText.{part_settled_text}
+
+-- The limit is told, or there is want of memory.
+abbrev pub Tells : Limit → NoText → Type 0
+Tells limit (faults.Limit fault) = limit ≡ Beyond fault
+Tells limit (faults.NotKnown place name reason) = limit ≡ NotKnown place name.items reason
+Tells limit faults.TooLong = ⊥
+Tells limit faults.Memory = ⊤
 
 -- it is within the limits, and this is its text
 pub record IsTextOf (strict : Bool) (asked : Asked) (settled : Settled) (text : List ℕ) : Type 0 where
@@ -28,7 +36,8 @@ pub record IsTooLong (strict : Bool) (asked : Asked) (settled : Settled) : Type 
 -- the text; or the first limit that it is beyond; or it is too long; or want of memory
 abbrev pub Gives : Bool → Asked → Settled → Result (Vec ℕ Global) NoText → Type 0
 Gives strict asked settled (Ok text) = IsTextOf strict asked settled text.items
-Gives strict asked settled (Err (faults.Limit fault)) = limit_fault strict settled ≡ Some fault
+Gives strict asked settled (Err (faults.Limit fault)) = first_limit strict settled ≡ Some (Beyond fault)
+Gives strict asked settled (Err (faults.NotKnown place name reason)) = first_limit strict settled ≡ Some (NotKnown place name.items reason)
 Gives strict asked settled (Err faults.TooLong) = IsTooLong strict asked settled
 Gives strict asked settled (Err faults.Memory) = ⊤
 
@@ -52,7 +61,9 @@ pub record IsPartTooLong (strict : Bool) (asked : Asked) (cut : Cut) (last : Boo
 -- the text; or the first limit that it is beyond; or it is too long; or want of memory
 abbrev pub GivesPart : Bool → Asked → Cut → Bool → ℕ → Settled → Result (Vec ℕ Global) NoText → Type 0
 GivesPart strict asked cut last shift settled (Ok text) = IsPartText strict asked cut last shift settled text.items
-GivesPart strict asked cut last shift settled (Err (faults.Limit fault)) = part_limit_fault asked strict cut settled ≡ Some fault
+GivesPart strict asked cut last shift settled (Err (faults.Limit fault)) = part_limit asked strict cut settled ≡ Some (Beyond fault)
+GivesPart strict asked cut last shift settled (Err (faults.NotKnown place name reason)) =
+    part_limit asked strict cut settled ≡ Some (NotKnown place name.items reason)
 GivesPart strict asked cut last shift settled (Err faults.TooLong) = IsPartTooLong strict asked cut last shift settled
 GivesPart strict asked cut last shift settled (Err faults.Memory) = ⊤
 

@@ -25,6 +25,7 @@ pub fn reason_words(reason: Reason) -> &'static str
         Reason::EventsLost => "events lost",
         Reason::SwitchMissing => "a switch is missing",
         Reason::BeginUnseen => "its begin isn't in the trace",
+        Reason::DueBefore => "due before it begins",
         Reason::Moved => "ran on another processor",
         Reason::SpeedUnknown => "frequency not known",
     }

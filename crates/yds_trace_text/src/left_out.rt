@@ -16,11 +16,12 @@ use yds_trace::{Reason, Task};
 use yds_trace_document::{Judged, Name};
 
 /// The reasons for which jobs are left out, but for `from` and `to`.
-const REASONS: [Reason; 6] = [
+const REASONS: [Reason; 7] = [
     Reason::NotEnded,
     Reason::EventsLost,
     Reason::SwitchMissing,
     Reason::BeginUnseen,
+    Reason::DueBefore,
     Reason::Moved,
     Reason::SpeedUnknown,
 ];

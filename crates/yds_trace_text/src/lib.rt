@@ -13,6 +13,7 @@ mod last;
 mod late;
 mod laws;
 mod left_out;
+mod limit;
 mod numbers;
 mod others;
 mod part;

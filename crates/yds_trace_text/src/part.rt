@@ -12,6 +12,7 @@ ghost use Rattle.yds_trace_text.specs.Writing.{GivesPart, WritesPart};
 
 use crate::bytes::put_comment;
 use crate::fault::{NoText, TextFault};
+use crate::limit::no_text;
 use crate::numbers::decimal;
 use crate::writing::put_settled;
 use base::Memory;
@@ -50,7 +51,7 @@ fn limited_text(
     ensures { GivesPart strict (asked_read asked.now) cut last part.now.shift (settled_read part.now.settled) result }
 {
     if let Some(fault) = part_limit_fault(asked, strict, cut, &part.settled) {
-        return Err(NoText::Limit(fault));
+        return Err(no_text(alloc, &part.settled.judged, fault));
     }
     match short_text(alloc, asked, cut, last, part) {
         Ok(text) => Ok(text),

@@ -6,7 +6,7 @@ use crate::bytes::put_comment;
 use crate::numbers::{decimal, in_seconds};
 use base::Memory;
 use std::alloc::Global;
-use yds_trace::{Pause, Tally};
+use yds_trace::{Pause, Silence, Tally};
 
 /// A second, in nanoseconds.
 const SECOND: u64 = 1_000_000_000;
@@ -90,6 +90,78 @@ fn put_long(alloc: Global, in_parts: bool, pause: Pause, text: &mut Vec<u8>) -> 
     )
 }
 
+/// How the comment on a processor's silence begins.
+fn no_line_of_text(in_parts: bool) -> &'static [u8]
+    ensures { result.now ≡ spec.no_line_of_text in_parts }
+{
+    if in_parts {
+        b"up to here, no line of CPU "
+    } else {
+        b"no line of CPU "
+    }
+}
+
+/// Up to when it was silent, in words.
+fn on_to_the_end(in_parts: bool) -> &'static [u8]
+    ensures { result.now ≡ spec.on_to_the_end in_parts }
+{
+    if in_parts {
+        b" s on"
+    } else {
+        b" s on to the end"
+    }
+}
+
+/// Whether a silence is longer than a second.
+fn is_silent(silence: Silence) -> bool
+    ensures { result ≡ spec.is_silent silence }
+{
+    silence.lasted > SECOND
+}
+
+/// The longest silence of a processor, if it is long.
+fn put_silence(
+    alloc: Global,
+    in_parts: bool,
+    silence: Silence,
+    text: &mut Vec<u8>,
+) -> Result<(), Memory>
+    ensures { OnOk result (text.new.items ≡ text.old.items ++ spec.silence_comment in_parts silence) }
+{
+    if is_silent(silence) {
+        put_silent(alloc, in_parts, silence, text)
+    } else {
+        Ok(())
+    }
+}
+
+/// A long silence.
+fn put_silent(
+    alloc: Global,
+    in_parts: bool,
+    silence: Silence,
+    text: &mut Vec<u8>,
+) -> Result<(), Memory>
+    ensures { OnOk result (text.new.items ≡ text.old.items ++ spec.silent_comment in_parts silence) }
+{
+    let processor = decimal(alloc, silence.processor)?;
+    let lasted = in_seconds(alloc, silence.lasted)?;
+    let since = in_seconds(alloc, silence.since)?;
+    put_comment(
+        &[
+            no_line_of_text(in_parts),
+            processor.as_slice(),
+            b" for ".as_slice(),
+            lasted.as_slice(),
+            b" s, from ".as_slice(),
+            since.as_slice(),
+            on_to_the_end(in_parts),
+            b": what it did then isn't known".as_slice(),
+        ],
+        text,
+    )
+}
+
 /// The comments on what the trace lacks.
 pub(crate) fn put_tally(
     alloc: Global,
@@ -120,5 +192,6 @@ pub(crate) fn put_tally(
         tally.markers,
         text,
     )?;
-    put_pause(alloc, in_parts, tally.pause, text)
+    put_pause(alloc, in_parts, tally.pause, text)?;
+    put_silence(alloc, in_parts, tally.silence, text)
 }

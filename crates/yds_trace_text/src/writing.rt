@@ -19,6 +19,7 @@ use crate::head::{put_head, put_units};
 use crate::last::put_last;
 use crate::late::put_all_late;
 use crate::left_out::put_left_out;
+use crate::limit::no_text;
 use crate::others::put_all_others;
 use crate::rows::{names_of, put_jobs, put_runs};
 use crate::short::put_short_stretches;
@@ -53,7 +54,7 @@ fn limited_text(
     ensures { Gives strict (asked_read asked.now) (settled_read settled.now) result }
 {
     if let Some(fault) = limit_fault(strict, settled) {
-        return Err(NoText::Limit(fault));
+        return Err(no_text(alloc, &settled.judged, fault));
     }
     match text(alloc, asked, settled) {
         Ok(text) => Ok(text),

@@ -1,11 +1,11 @@
-//! Comments on deadlines and distances that are likely in another unit.
-ghost use Rattle.std.specs.Prelude.{◌≡◌, ◌*◌, ◌++◌, OnOk, IfOk, map, nat_lt};
+//! Comments on deadlines and distances that are likely in another unit, and on tasks that lack a period.
+ghost use Rattle.std.specs.Prelude.{◌≡◌, ◌-◌, ◌*◌, ◌++◌, OnOk, IfOk, length, map, nat_lt};
 ghost use Rattle.yds_trace.specs.Views.{task_read};
 ghost use Rattle.yds_trace_document.specs.Views.{judged_list, judged_lists};
 ghost use Rattle.yds_trace_text.specs.Text as spec;
 
 use crate::bytes::put_comment;
-use crate::numbers::in_milliseconds;
+use crate::numbers::{decimal, in_milliseconds};
 use base::Memory;
 use std::alloc::Global;
 use yds_trace::Task;
@@ -130,7 +130,7 @@ fn put_wrong(
     }
 }
 
-/// The comments on a task's deadline and APART.
+/// The comments on a task's deadline, APART and period.
 fn put_wrong_units(
     alloc: Global,
     task: &Task,
@@ -140,7 +140,84 @@ fn put_wrong_units(
     ensures { OnOk result (text.new.items ≡ text.old.items ++ spec.unit_comments (task_read task.now) (judged_list judged.now)) }
 {
     let begins = known_begins(alloc, judged)?;
-    put_both(alloc, task, mean_distance(&begins), text)
+    put_begins(alloc, task, &begins, text)
+}
+
+/// The same by the begins of its jobs.
+fn put_begins(alloc: Global, task: &Task, begins: &[u64], text: &mut Vec<u8>) -> Result<(), Memory>
+    ensures { OnOk result (text.new.items ≡ text.old.items ++ spec.begins_comments (task_read task.now) begins.now) }
+{
+    let mean = mean_distance(begins);
+    put_both(alloc, task, mean, text)?;
+    put_period(alloc, task, begins.len() as u64, mean, text)
+}
+
+/// Whether a number is less than a hundred times the other.
+fn is_within_hundred(number: u64, other: u64) -> bool
+    ensures { result ≡ nat_lt number (100 * other) }
+{
+    match other.checked_mul(100) {
+        Some(hundred) => number < hundred,
+        None => true,
+    }
+}
+
+/// Whether a task has no period, and its jobs begin farther apart than its deadline.
+fn lacks_period(task: &Task, mean: u64) -> bool
+    ensures { result ≡ spec.lacks_period (task_read task.now) mean }
+{
+    task.period == 0
+        && is_within_hundred(task.deadline, mean.saturating_sub(task.deadline))
+        && !is_far_below(task.deadline, mean)
+}
+
+/// The comment on a task that lacks a period, of which so many begins are known, if it does.
+#[tactic(auto, unfolding(crate::specs::Text::period_comment))]
+fn put_period(
+    alloc: Global,
+    task: &Task,
+    number: u64,
+    mean: Option<u64>,
+    text: &mut Vec<u8>,
+) -> Result<(), Memory>
+    ensures { OnOk result (text.new.items ≡ text.old.items ++ spec.period_comment (task_read task.now) number mean) }
+{
+    let Some(mean) = mean else {
+        return Ok(());
+    };
+    if lacks_period(task, mean) {
+        put_without_period(alloc, task, number, mean, text)
+    } else {
+        Ok(())
+    }
+}
+
+fn put_without_period(
+    alloc: Global,
+    task: &Task,
+    number: u64,
+    mean: u64,
+    text: &mut Vec<u8>,
+) -> Result<(), Memory>
+    ensures { OnOk result (text.new.items ≡ text.old.items ++ spec.without_period_comment (task_read task.now) number mean) }
+{
+    let label = Vec::from_slice(alloc, &task.label)?;
+    let begins = decimal(alloc, number)?;
+    let mean = in_milliseconds(alloc, mean)?;
+    let deadline = in_milliseconds(alloc, task.deadline)?;
+    put_comment(
+        &[
+            label.as_slice(),
+            b": ".as_slice(),
+            begins.as_slice(),
+            b" begins, ".as_slice(),
+            mean.as_slice(),
+            b" ms apart in the mean, a deadline of ".as_slice(),
+            deadline.as_slice(),
+            b" ms: a period would tell frames that fall behind".as_slice(),
+        ],
+        text,
+    )
 }
 
 fn put_both(alloc: Global, task: &Task, mean: Option<u64>, text: &mut Vec<u8>) -> Result<(), Memory>

@@ -7,7 +7,8 @@ use Rattle.yds_trace.specs.declared.fault.Cause.TheVariants as causes
 use Rattle.yds_trace.specs.Asked.{Asked, IsAsked, on}
 use Rattle.yds_trace.specs.Faults.{first_fault}
 use Rattle.yds_trace.specs.Document.{Judged, all_judged}
-use Rattle.yds_trace.specs.Parts.{belongs, place_of, cut_after, changes_parts, processor_count, first_numbers, processors_of, watched_of, changes_one, parts_fault}
+use Rattle.yds_trace.specs.Past.{processor_count}
+use Rattle.yds_trace.specs.Parts.{belongs, place_of, cut_after, changes_parts, first_numbers, processors_of, watched_of, changes_one, parts_fault}
 use Rattle.yds_trace.proofs.OnProcessor.{first_fault_on, changes_parts_on}
 use Rattle.yds_trace_laws.specs.Processors.{whole_job, BelongsTo}
 use Rattle.yds_trace_laws.proofs.Ordered.{append-all, append-all_left, map-all}

@@ -1,5 +1,5 @@
 -- What an event does to the jobs that are told: nothing, where these are settled. And what is known of each job's times stays so.
-use Rattle.yds_model.proofs.Common.{◌≡◌, ◌∙◌, ℕ, ◌+◌, ◌<◌, ◌≤◌, ◌⊎◌, inl, inr, ◌==◌, ◌&&◌, List, [], ◌∷◌, map, min, Bool, true, false, not, nat_lt, if◌then◌else◌, Option, Some, None, is_none, refl, sym, ap, subst, arith, ltb-true, le-ltb, le_refl, eqb-true, and_parts, length, cond_both, not-true, unwrap_or}
+use Rattle.yds_model.proofs.Common.{◌≡◌, ◌∙◌, ℕ, ◌+◌, ◌<◌, ◌≤◌, ◌⊎◌, inl, inr, ◌==◌, ◌&&◌, List, [], ◌∷◌, map, min, Bool, true, false, not, nat_lt, if◌then◌else◌, Option, Some, None, is_none, refl, sym, ap, subst, arith, ltb-true, le-ltb, le_refl, eqb-true, and_parts, length, cond_both, not-true, unwrap_or, ◌||◌, is_some, ltb-false, false≢true}
 use Rattle.std.specs.List.{AllByRecursion}
 use Rattle.yds_kernel.specs.declared.state.State.{State}
 use Rattle.yds_kernel.specs.declared.state.State.TheVariants as states
@@ -9,18 +9,18 @@ use Rattle.yds_trace.specs.declared.job.Stretch.{Stretch}
 use Rattle.yds_trace.specs.declared.job.Standing.{Standing}
 use Rattle.yds_trace.specs.declared.job.Leaving.{Leaving}
 use Rattle.yds_trace.specs.declared.job.Woken.{Woken}
-use Rattle.yds_trace.specs.Jobs.{Job, Known, new_job, began, reopened, woken_after, counted, woken_jobs, awake_jobs, went_on, back_jobs, come_jobs, running_jobs, changed_last, ended, exits, missing, ran, left_unseen, vanished, stands_on, passed_by, comes, has_no_switch, is_new, begun_at_most, begun_by, stretch_of, left_from, left_in, leaves, not_seen, left_started, woken_at, wakes_up, speeds, open_until, lost_end, lost_job, lost_before, lost_earlier, lost_jobs, loses, after_switch}
+use Rattle.yds_trace.specs.declared.job.Pace.{Pace}
+use Rattle.yds_trace.specs.Jobs.{Job, Known, new_job, began, due_behind, began_behind, reopened, woken_after, counted, woken_jobs, went_on, unended, back_jobs, come_jobs, running_jobs, found_jobs, changed_last, ended, exits, missing, ran, is_open_or_woken, is_awake, is_there, torn_jobs, torn, torn_if, comes, begun_at_most, begun_by, stretch_of, left_unseen, left_from, left_in, leaves, not_seen, left_started, may_run, woken_at, wakes_up, speeds, open_until, lost_end, lost_job, loses, left_if, came_if, after_switch}
 use Rattle.yds_trace_laws.proofs.Runs.{all_weaker}
 use Rattle.yds_trace_whole.proofs.Told.{Told, told, new_told, changed_told, AreAlike, alike_told, Each}
 
 -- # What holds of each job
 
--- Its end is no later than a time. Where its thread left unseen, a switch is missing.
-abbrev pub IsSoundEnd : ℕ → Bool → End → Type 0
-IsSoundEnd now absent ends.Open = Unit {0}
-IsSoundEnd now absent (ends.Ended end) = end ≤ now
-IsSoundEnd now absent (ends.Unseen since goes_on) = (since ≤ now) × (absent ≡ true)
-IsSoundEnd now absent (ends.Lost since) = since ≤ now
+-- Its end is no later than a time.
+abbrev pub IsSoundEnd : ℕ → End → Type 0
+IsSoundEnd now ends.Open = Unit {0}
+IsSoundEnd now (ends.Ended end) = end ≤ now
+IsSoundEnd now (ends.Lost since) = since ≤ now
 
 -- up to when a job may have run
 abbrev pub latest : ℕ → End → ℕ
@@ -34,30 +34,27 @@ IsSpan from to stretch = (from ≤ stretch.from) × (stretch.from ≤ stretch.to
 abbrev pub AreSpans : ℕ → ℕ → List Stretch → Type 0
 AreSpans from to stretches = AllByRecursion (IsSpan from to) stretches
 
--- And its stretches lie between its begin and its end.
+-- And its stretches lie between its begin and its end, and so does its first sleep from which it went on.
 abbrev pub IsSound : ℕ → Job → Type 0
 IsSound now job =
-    (job.begin ≤ now) × IsSoundEnd now job.switch_missing job.end × (job.begin ≤ latest now job.end) × AreSpans job.begin (latest now job.end) job.stretches
+    (job.begin ≤ now) × IsSoundEnd now job.end × (job.begin ≤ latest now job.end) × AreSpans job.begin (latest now job.end) job.stretches × (unwrap_or job.slept 0 ≤ now)
 
 abbrev pub AreSound : ℕ → List Job → Type 0
 AreSound now jobs = AllByRecursion (IsSound now) jobs
 
-later_end : (now later : ℕ) (absent : Bool) (end : End) → now ≤ later → IsSoundEnd now absent end → IsSoundEnd later absent end
-later_end now later absent ends.Open on sound = tt
-later_end now later absent (ends.Ended end) on sound = omega (arith, on, sound)
-later_end now later absent (ends.Unseen since goes_on) on sound = (omega (arith, on, sound.0), sound.1)
-later_end now later absent (ends.Lost since) on sound = omega (arith, on, sound)
+later_end : (now later : ℕ) (end : End) → now ≤ later → IsSoundEnd now end → IsSoundEnd later end
+later_end now later ends.Open on sound = tt
+later_end now later (ends.Ended end) on sound = omega (arith, on, sound)
+later_end now later (ends.Lost since) on sound = omega (arith, on, sound)
 
-latest_by : (now : ℕ) (absent : Bool) (end : End) → IsSoundEnd now absent end → latest now end ≤ now
-latest_by now absent ends.Open sound = omega arith
-latest_by now absent (ends.Ended end) sound = sound
-latest_by now absent (ends.Unseen since goes_on) sound = omega arith
-latest_by now absent (ends.Lost since) sound = omega arith
+latest_by : (now : ℕ) (end : End) → IsSoundEnd now end → latest now end ≤ now
+latest_by now ends.Open sound = omega arith
+latest_by now (ends.Ended end) sound = sound
+latest_by now (ends.Lost since) sound = omega arith
 
 latest_later : (now later : ℕ) (end : End) → now ≤ later → latest now end ≤ latest later end
 latest_later now later ends.Open on = on
 latest_later now later (ends.Ended end) on = omega arith
-latest_later now later (ends.Unseen since goes_on) on = on
 latest_later now later (ends.Lost since) on = on
 
 pub wider : (from to more : ℕ) (stretches : List Stretch) → to ≤ more → AreSpans from to stretches → AreSpans from more stretches
@@ -65,26 +62,32 @@ wider from to more stretches on spans =
     all_weaker (IsSpan from to) (IsSpan from more) (λ stretch is. (is.0, is.1, omega (arith, is.2, on))) stretches spans
 
 -- a sound job whose end is another one, up to which it may have run
-other_end : (now : ℕ) (job : Job) (absent : Bool) (end : End) → IsSound now job → IsSoundEnd now absent end → now ≤ latest now end →
-    IsSound now (record job { end = end; switch_missing = absent })
-other_end now job absent end sound now_sound on =
-    let most : latest now job.end ≤ now = latest_by now job.switch_missing job.end sound.1 in
-    (sound.0, now_sound, omega (arith, sound.0, on), wider job.begin (latest now job.end) (latest now end) job.stretches (omega (arith, most, on)) sound.3)
+other_end : (now : ℕ) (job : Job) (end : End) → IsSound now job → IsSoundEnd now end → now ≤ latest now end → IsSound now (record job { end = end })
+other_end now job end sound now_sound on =
+    let most : latest now job.end ≤ now = latest_by now job.end sound.1 in
+    (sound.0, now_sound, omega (arith, sound.0, on), wider job.begin (latest now job.end) (latest now end) job.stretches (omega (arith, most, on)) sound.3, sound.4)
 
 pub later_sound : (now later : ℕ) (jobs : List Job) → now ≤ later → AreSound now jobs → AreSound later jobs
 later_sound now later jobs on sound =
     all_weaker (IsSound now) (IsSound later) (λ job is. (
       omega (arith, on, is.0),
-      later_end now later job.switch_missing job.end on is.1,
+      later_end now later job.end on is.1,
       omega (arith, is.2, latest_later now later job.end on),
       wider job.begin (latest now job.end) (latest later job.end) job.stretches (latest_later now later job.end on) is.3,
+      omega (arith, on, is.4),
     )) jobs sound
 
-absent_end : (now : ℕ) (absent : Bool) (end : End) → IsSoundEnd now absent end → IsSoundEnd now true end
-absent_end now absent ends.Open sound = tt
-absent_end now absent (ends.Ended end) sound = sound
-absent_end now absent (ends.Unseen since goes_on) sound = (sound.0, refl)
-absent_end now absent (ends.Lost since) sound = sound
+-- a job of which nothing more is known from its first sleep without a wake-up on
+unended_sound : (now end : ℕ) (job : Job) → job.end ≡ ends.Ended end → IsSound now job → IsSound now (unended end job)
+unended_sound now end job is sound =
+    other_end now job (ends.Lost (unwrap_or job.slept end)) sound (by job.slept sound.4) (omega arith)
+  where
+    over : end ≤ now
+    over = subst (IsSoundEnd now) is sound.1
+
+    by : (slept : Option ℕ) → unwrap_or slept 0 ≤ now → unwrap_or slept end ≤ now
+    by None first = over
+    by (Some first) early = early
 
 -- # What holds of the last job
 
@@ -101,7 +104,7 @@ IsLastBy time (job ∷ jobs) = job.begin ≤ time
 -- Its thread runs, and came by this time; and the job began before it ran.
 abbrev pub StandsBy : ℕ → Option Standing → List Job → Type 0
 StandsBy now None jobs = Unit {0}
-StandsBy now (Some standing) jobs = (standing.came ≤ now) × IsLastOpen jobs × IsLastBy standing.since jobs × (standing.since ≤ now)
+StandsBy now (Some standing) jobs = (standing.came ≤ standing.since) × IsLastOpen jobs × IsLastBy standing.since jobs × (standing.since ≤ now)
 
 abbrev pub IsOff : Option Standing → Type 0
 IsOff None = Unit {0}
@@ -111,7 +114,6 @@ IsOff (Some standing) = ⊥
 abbrev pub IsDone : End → Type 0
 IsDone ends.Open = ⊥
 IsDone (ends.Ended end) = Unit {0}
-IsDone (ends.Unseen since goes_on) = ⊥
 IsDone (ends.Lost since) = Unit {0}
 
 -- It doesn't begin before the boundary.
@@ -128,7 +130,6 @@ IsLeft boundary on (job ∷ jobs) = (boundary ≤ job.begin) ⊎ (IsDone job.end
 abbrev pub IsRipeEnd : ℕ → ℕ → End → Type 0
 IsRipeEnd until time ends.Open = Unit {0}
 IsRipeEnd until time (ends.Ended end) = until ≤ time
-IsRipeEnd until time (ends.Unseen since goes_on) = Unit {0}
 IsRipeEnd until time (ends.Lost since) = Unit {0}
 
 abbrev pub IsRipe : ℕ → ℕ → ℕ → List Job → Type 0
@@ -153,16 +154,23 @@ standing_free boundary standing (job ∷ jobs) (inr done) = absurd done.1
 abbrev pub IsAwaited : Bool → End → Type 0
 IsAwaited seen ends.Open = Unit {0}
 IsAwaited seen (ends.Ended end) = seen ≡ true
-IsAwaited seen (ends.Unseen since goes_on) = ⊥
 IsAwaited seen (ends.Lost since) = ⊥
+
+-- It began before that wake-up; or it is known to have begun behind it, as another name's job.
+abbrev pub IsBegunBy : ℕ → Bool → Job → Type 0
+IsBegunBy at seen job = (job.begin ≤ at) ⊎ ((job.begin_known ≡ true) × (seen ≡ true))
 
 abbrev pub IsLastAwaited : ℕ → Bool → List Job → Type 0
 IsLastAwaited at seen [] = ⊥
-IsLastAwaited at seen (job ∷ jobs) = (job.begin ≤ at) × IsAwaited seen job.end
+IsLastAwaited at seen (job ∷ jobs) = IsBegunBy at seen job × IsAwaited seen job.end
 
--- A wake-up that was started came by now, and the last job began before it.
-abbrev pub IsStarted : ℕ → Woken → List Job → Type 0
-IsStarted now woken jobs = (at : ℕ) → woken.started ≡ Some at → IsLastAwaited at woken.seen jobs × (at ≤ now)
+abbrev pub HasCome : ℕ → Option Standing → Type 0
+HasCome at None = Unit {0}
+HasCome at (Some standing) = standing.came ≤ at
+
+-- A wake-up that was started came by now, behind its thread's coming.
+abbrev pub IsStarted : ℕ → Woken → Option Standing → List Job → Type 0
+IsStarted now woken on jobs = (at : ℕ) → woken.started ≡ Some at → IsLastAwaited at woken.seen jobs × (at ≤ now) × HasCome at on
 
 -- Where its thread comes behind a sleep of which all is told, the last job isn't before the boundary.
 abbrev pub IsBack : ℕ → Woken → List Job → Type 0
@@ -180,7 +188,7 @@ pub record Keeps (boundary now : ℕ) (all : List Told) (known : Known) : Type 0
   pub sound : AreSound now known.jobs
   pub last : IsLeft boundary known.on known.jobs
   pub stands : StandsBy now known.on known.jobs
-  pub started : IsStarted now known.woken known.jobs
+  pub started : IsStarted now known.woken known.on known.jobs
 
 -- and the last one may change
 record Fresh (boundary now : ℕ) (all : List Told) (jobs : List Job) : Type 0 where
@@ -195,49 +203,125 @@ record Going (boundary now : ℕ) (all : List Told) (jobs : List Job) : Type 0 w
   free : IsFree boundary jobs
   last_open : IsLastOpen jobs
 
-fresh_keeps : (boundary now : ℕ) (all : List Told) (jobs : List Job) (woken : Woken) → Fresh boundary now all jobs → IsStarted now woken jobs →
+fresh_keeps : (boundary now : ℕ) (all : List Told) (jobs : List Job) (woken : Woken) → Fresh boundary now all jobs → IsStarted now woken None jobs →
     Keeps boundary now all (record { jobs = jobs; on = None; woken = woken })
 fresh_keeps boundary now all jobs woken fresh started =
     record { told = fresh.told; sound = fresh.sound; last = free_left boundary None jobs fresh.free; stands = tt; started = started }
 
 -- no wake-up was started
-none_started : (now : ℕ) (seen : Bool) (jobs : List Job) (at : ℕ) → ◌≡◌ {A = Option ℕ} None (Some at) → IsLastAwaited at seen jobs × (at ≤ now)
-none_started now seen jobs at none = absurd (cc none)
+none_started : (now : ℕ) (seen : Bool) (on : Option Standing) (jobs : List Job) (at : ℕ) → ◌≡◌ {A = Option ℕ} None (Some at) →
+    IsLastAwaited at seen jobs × (at ≤ now) × HasCome at on
+none_started now seen on jobs at none = absurd (cc none)
 
 -- Of an open job, which began by now.
 going_started : (boundary now at : ℕ) (all : List Told) (seen : Bool) (jobs : List Job) → now ≤ at → Going boundary now all jobs → IsLastAwaited at seen jobs
 going_started boundary now at all seen [] on going = absurd going.last_open
-going_started boundary now at all seen (job ∷ jobs) on going = (omega (arith, on, going.sound.0.0), subst (IsAwaited seen) (sym going.last_open) tt)
-
--- Where a wake-up was started, the last job isn't before the boundary, and nor is what the wake-up begins.
-pub started_free : (boundary now : ℕ) (woken : Woken) (on : Option Standing) (apart at : ℕ) (jobs : List Job) → woken.started ≡ Some at → IsStarted now woken jobs →
-    IsLeft boundary on jobs → IsBack boundary woken jobs → (boundary ≤ at) × IsRipe boundary apart at jobs
-started_free boundary now woken on apart at [] is started last back = absurd (started at is).0
-started_free boundary now woken on apart at (job ∷ jobs) is started last back =
-    let free : boundary ≤ job.begin = by job.end refl (started at is).0.1 last in (omega (arith, free, (started at is).0.0), inl free)
-  where
-    by : (end : End) → job.end ≡ end → IsAwaited woken.seen job.end → (boundary ≤ job.begin) ⊎ (IsDone job.end × IsOff on) → boundary ≤ job.begin
-    by end known awaited (inl free) = free
-    by ends.Open known awaited (inr done) = absurd (subst IsDone known done.0)
-    by (ends.Ended end) known awaited (inr done) = back end known (subst (IsAwaited woken.seen) known awaited)
-    by (ends.Unseen since goes_on) known awaited (inr done) = absurd (subst IsDone known done.0)
-    by (ends.Lost since) known awaited (inr done) = absurd (subst (IsAwaited woken.seen) known awaited)
+going_started boundary now at all seen (job ∷ jobs) on going =
+    (inl (let begun : job.begin ≤ now = going.sound.0.0 in omega (arith, on, begun)), subst (IsAwaited seen) (sym going.last_open) tt)
 
 going_fresh : (boundary now : ℕ) (all : List Told) (jobs : List Job) → Going boundary now all jobs → Fresh boundary now all jobs
 going_fresh boundary now all jobs going = record { told = going.told; sound = going.sound; free = going.free }
 
-by_end : (P : List Job → Type 0) (end : End) (whole : List Job) (ended : ℕ → List Job) (unseen : ℕ → Bool → List Job) (lost : ℕ → List Job) →
-    (end ≡ ends.Open → P whole) → ((time : ℕ) → end ≡ ends.Ended time → P (ended time)) →
-    ((time : ℕ) (goes_on : Bool) → end ≡ ends.Unseen time goes_on → P (unseen time goes_on)) → ((time : ℕ) → end ≡ ends.Lost time → P (lost time)) →
-    P (elim end [ ends.Open ↦ whole | ends.Ended time ↦ ended time | ends.Unseen time goes_on ↦ unseen time goes_on | ends.Lost time ↦ lost time ])
-by_end P ends.Open whole ended unseen lost a b c d = a refl
-by_end P (ends.Ended time) whole ended unseen lost a b c d = b time refl
-by_end P (ends.Unseen time goes_on) whole ended unseen lost a b c d = c time goes_on refl
-by_end P (ends.Lost time) whole ended unseen lost a b c d = d time refl
+by_end : (P : List Job → Type 0) (end : End) (whole : List Job) (ended : ℕ → List Job) (lost : ℕ → List Job) →
+    (end ≡ ends.Open → P whole) → ((time : ℕ) → end ≡ ends.Ended time → P (ended time)) → ((time : ℕ) → end ≡ ends.Lost time → P (lost time)) →
+    P (elim end [ ends.Open ↦ whole | ends.Ended time ↦ ended time | ends.Lost time ↦ lost time ])
+by_end P ends.Open whole ended lost a b c = a refl
+by_end P (ends.Ended time) whole ended lost a b c = b time refl
+by_end P (ends.Lost time) whole ended lost a b c = c time refl
 
 either : {A : Type 0} (P : A → Type 0) (b : Bool) (x y : A) → P x → P y → P (if b then x else y)
 either P true x y first second = first
 either P false x y first second = second
+
+-- # Losses
+
+-- A job whose end is known by the time since when events were lost.
+abbrev pub IsKnownBy : ℕ → End → Type 0
+IsKnownBy since ends.Open = ⊥
+IsKnownBy since (ends.Ended end) = end ≤ since
+IsKnownBy since (ends.Lost last) = last ≤ since
+
+lost_end_same : (since : ℕ) (slept : Option ℕ) (end : End) → IsKnownBy since end → lost_end since slept end ≡ end
+lost_end_same since slept ends.Open known = absurd known
+lost_end_same since slept (ends.Ended end) known = ap (λ (b : Bool). if b then ends.Lost (open_until since slept) else ends.Ended end) (le-ltb since end known)
+lost_end_same since slept (ends.Lost last) known = ap ends.Lost (let e : min since last ≡ last = omega (arith, known) in e)
+
+with_end : (job : Job) (end : End) → end ≡ job.end → record job { end = end } ≡ job
+with_end job end is = ap (λ (e : End). record job { end = e }) is
+
+lost_alike : (boundary since : ℕ) (jobs : List Job) → Each (λ job. IsKnownBy since job.end) boundary jobs → AreAlike boundary jobs (map (lost_job since) jobs)
+lost_alike boundary since [] known = tt
+lost_alike boundary since (job ∷ jobs) known = (
+  record { begin = refl; known = refl; same = λ early. with_end job (lost_end since job.slept job.end) (lost_end_same since job.slept job.end (known.0 early)) },
+  lost_alike boundary since jobs known.1,
+)
+
+-- a sound job whose end is lost, or stays
+sound_if : (now since : ℕ) (job : Job) (b : Bool) (end : End) → since ≤ now → job.end ≡ end → IsSound now job → IsSound now (record job { end = if b then ends.Lost since else end })
+sound_if now since job true end by is sound = other_end now job (ends.Lost since) sound by (omega arith)
+sound_if now since job false end by is sound = subst (λ (e : End). IsSound now (record job { end = e })) is sound
+
+lost_end_sound : (now since : ℕ) (slept : Option ℕ) (job : Job) (end : End) → since ≤ now → job.end ≡ end → IsSound now job →
+    IsSound now (record job { end = lost_end since slept end })
+lost_end_sound now since slept job ends.Open by is sound = other_end now job (ends.Lost (open_until since slept)) sound (omega (arith, by)) (omega arith)
+lost_end_sound now since slept job (ends.Ended end) by is sound =
+    sound_if now (open_until since slept) job (nat_lt since end) (ends.Ended end) (omega (arith, by)) is sound
+lost_end_sound now since slept job (ends.Lost last) by is sound = other_end now job (ends.Lost (min since last)) sound (omega (arith, by)) (omega arith)
+
+lost_sound : (now since : ℕ) (jobs : List Job) → since ≤ now → AreSound now jobs → AreSound now (map (lost_job since) jobs)
+lost_sound now since [] by sound = tt
+lost_sound now since (job ∷ jobs) by sound = (lost_end_sound now since job.slept job job.end by refl sound.0, lost_sound now since jobs by sound.1)
+
+done_if : (since : ℕ) (b : Bool) (end : End) → IsDone end → IsDone (if b then ends.Lost since else end)
+done_if since true end done = tt
+done_if since false end done = done
+
+lost_done : (since : ℕ) (slept : Option ℕ) (end : End) → IsDone (lost_end since slept end)
+lost_done since slept ends.Open = tt
+lost_done since slept (ends.Ended end) = done_if (open_until since slept) (nat_lt since end) (ends.Ended end) tt
+lost_done since slept (ends.Lost last) = tt
+
+lost_left : (boundary since : ℕ) (on : Option Standing) (jobs : List Job) → IsLeft boundary on jobs → IsLeft boundary None (map (lost_job since) jobs)
+lost_left boundary since on [] last = tt
+lost_left boundary since on (job ∷ jobs) (inl free) = inl free
+lost_left boundary since on (job ∷ jobs) (inr done) = inr (lost_done since job.slept job.end, tt)
+
+lost_told : (boundary since : ℕ) (jobs : List Job) → Each (λ job. IsKnownBy since job.end) boundary jobs → told boundary (map (lost_job since) jobs) ≡ told boundary jobs
+lost_told boundary since jobs known = alike_told boundary jobs (map (lost_job since) jobs) (lost_alike boundary since jobs known)
+
+-- A loss since a time by which all ends are known that are told.
+pub loses_keeps : (boundary now : ℕ) (all : List Told) (since : ℕ) (known : Known) → since ≤ now → Each (λ job. IsKnownBy since job.end) boundary known.jobs →
+    Keeps boundary now all known → Keeps boundary now all (loses since known)
+loses_keeps boundary now all since known by ends_known keeps = record {
+  told = lost_told boundary since known.jobs ends_known ∙ keeps.told;
+  sound = lost_sound now since known.jobs by keeps.sound;
+  last = lost_left boundary since known.on known.jobs keeps.last;
+  stands = tt;
+  started = none_started now false None _;
+}
+
+-- What is lost is ripe where it was.
+ripe_if : (until time since : ℕ) (b : Bool) (end : End) → IsRipeEnd until time end → IsRipeEnd until time (if b then ends.Lost since else end)
+ripe_if until time since true end ripe = tt
+ripe_if until time since false end ripe = ripe
+
+lost_ripe_end : (until time since : ℕ) (slept : Option ℕ) (end : End) → IsRipeEnd until time end → IsRipeEnd until time (lost_end since slept end)
+lost_ripe_end until time since slept ends.Open ripe = tt
+lost_ripe_end until time since slept (ends.Ended end) ripe = ripe_if until time (open_until since slept) (nat_lt since end) (ends.Ended end) ripe
+lost_ripe_end until time since slept (ends.Lost last) ripe = tt
+
+lost_ripe : (boundary apart time since : ℕ) (jobs : List Job) → IsRipe boundary apart time jobs → IsRipe boundary apart time (map (lost_job since) jobs)
+lost_ripe boundary apart time since [] ripe = tt
+lost_ripe boundary apart time since (job ∷ jobs) (inl free) = inl free
+lost_ripe boundary apart time since (job ∷ jobs) (inr ripe) = inr (lost_ripe_end (job.begin + apart) time since job.slept job.end ripe)
+
+-- Of what is lost nothing was seen.
+lost_back : (boundary since : ℕ) (known : Known) → IsBack boundary not_seen (map (lost_job since) known.jobs)
+lost_back boundary since known = by (map (lost_job since) known.jobs)
+  where
+    by : (jobs : List Job) → IsBack boundary not_seen jobs
+    by [] = tt
+    by (job ∷ jobs) = λ end is seen. absurd (false≢true seen)
 
 module _ (boundary now : ℕ) (all : List Told) where
   changed_going : (change : Job → Job) → ((job : Job) → boundary ≤ job.begin → IsSound now job → job.end ≡ ends.Open →
@@ -272,25 +356,29 @@ module _ (boundary now : ℕ) (all : List Told) where
       let whole : now ≡ latest now job.end = subst (λ (end : End). now ≡ latest now end) (sym going.last_open) refl in
       record {
         told = changed_told boundary job (ran stretch job) jobs going.free going.free ∙ going.told;
-        sound = ((going.sound.0.0, going.sound.0.1, going.sound.0.2, ((from, forward, omega (arith, by, whole)), going.sound.0.3)), going.sound.1);
+        sound = ((going.sound.0.0, going.sound.0.1, going.sound.0.2, ((from, forward, omega (arith, by, whole)), going.sound.0.3), going.sound.0.4), going.sound.1);
         free = going.free;
       }
 
   missing_going : (jobs : List Job) → Going boundary now all jobs → Going boundary now all (changed_last missing jobs)
   missing_going =
-      changed_going missing (λ job late sound last_open. (late, (sound.0, absent_end now job.switch_missing job.end sound.1, sound.2, sound.3), last_open))
+      changed_going missing (λ job late sound last_open. (late, sound, last_open))
+
+  first_going : (time due_from : ℕ) (certain : Bool) (jobs : List Job) → boundary ≤ time → time ≤ now → told boundary jobs ≡ all → AreSound now jobs →
+      Going boundary now all (new_job time due_from certain ∷ jobs)
+  first_going time due_from certain jobs late by is sound =
+      record { told = new_told boundary (new_job time due_from certain) jobs late ∙ is; sound = ((by, tt, by, tt, omega arith), sound); free = late; last_open = refl }
 
   new_going : (time : ℕ) (certain : Bool) (jobs : List Job) → boundary ≤ time → time ≤ now → told boundary jobs ≡ all → AreSound now jobs →
       Going boundary now all (began time certain jobs)
-  new_going time certain jobs late by is sound =
-      record { told = new_told boundary (new_job time certain) jobs late ∙ is; sound = ((by, tt, by, tt), sound); free = late; last_open = refl }
+  new_going time certain jobs late by is sound = first_going time time certain jobs late by is sound
 
   reopened_going : (job : Job) (jobs : List Job) → boundary ≤ job.begin → told boundary (job ∷ jobs) ≡ all → AreSound now (job ∷ jobs) →
       Going boundary now all (reopened job ∷ jobs)
   reopened_going job jobs late is sound =
       record {
         told = changed_told boundary job (reopened job) jobs late late ∙ is;
-        sound = (other_end now job job.switch_missing ends.Open sound.0 tt (omega arith), sound.1);
+        sound = (other_end now job ends.Open sound.0 tt (omega arith), sound.1);
         free = late;
         last_open = refl;
       }
@@ -307,440 +395,580 @@ module _ (boundary now : ℕ) (all : List Told) where
 
   -- # A wake-up, a run
 
-  module _ (time : ℕ) (late : boundary ≤ time) (by : time ≤ now) where
-    awake_going : (on : Option Standing) (jobs : List Job) → told boundary jobs ≡ all → AreSound now jobs → IsLeft boundary on jobs →
-        Going boundary now all (awake_jobs time jobs)
-    awake_going on [] is sound last = new_going time false [] late by is sound
-    awake_going on (job ∷ jobs) is sound last =
-        by_end (Going boundary now all) job.end (job ∷ jobs) (λ end. began time false (job ∷ jobs))
-        (λ since goes_on. if goes_on then reopened job ∷ jobs else began time false (job ∷ jobs)) (λ since. began time false (job ∷ jobs))
-        (λ last_open. open_going on job jobs last_open is sound last)
-        (λ end is_ended. new_going time false (job ∷ jobs) late by is sound)
-        (λ since goes_on unseen. either (Going boundary now all) goes_on (reopened job ∷ jobs) (began time false (job ∷ jobs))
-        (reopened_going job jobs (undone on job (ends.Unseen since goes_on) unseen (λ done. done) last) is sound)
-        (new_going time false (job ∷ jobs) late by is sound))
-        (λ since lost. new_going time false (job ∷ jobs) late by is sound)
+  -- A wake-up at a time that may be before the boundary, behind a last job that may change.
+  woken_late_going : (pace : Pace) (at : ℕ) (job : Job) (jobs : List Job) → at ≤ now → boundary ≤ job.begin → (job.begin ≤ at) ⊎ (job.begin_known ≡ true) →
+      told boundary (job ∷ jobs) ≡ all → AreSound now (job ∷ jobs) → Going boundary now all (woken_after pace at job jobs)
+  woken_late_going pace at job jobs by free begun is sound = which (nat_lt at (job.begin + pace.apart)) refl
+    where
+      unknown : (b : Bool) → job.begin_known ≡ b → (job.begin ≤ at) ⊎ (job.begin_known ≡ true) →
+          Going boundary now all (if b then reopened job ∷ jobs else began at false (job ∷ jobs))
+      unknown true known begun = reopened_going job jobs free is sound
+      unknown false known (inl early) = new_going at false (job ∷ jobs) (omega (arith, free, early)) by is sound
+      unknown false known (inr certain) = absurd (let no : false ≡ true = sym known ∙ certain in false≢true no)
 
-    woken_after_going : (apart : ℕ) (job : Job) (jobs : List Job) → told boundary (job ∷ jobs) ≡ all → AreSound now (job ∷ jobs) →
-        (boundary ≤ job.begin) ⊎ (job.begin + apart ≤ time) → Going boundary now all (woken_after apart time job jobs)
-    woken_after_going apart job jobs is sound ripe = which (nat_lt time (job.begin + apart)) refl
+      which : (b : Bool) → nat_lt at (job.begin + pace.apart) ≡ b →
+          Going boundary now all (if not b then began_behind pace.period at job jobs else (if job.begin_known then reopened job ∷ jobs else began at false (job ∷ jobs)))
+      which true soon = unknown job.begin_known refl begun
+      which false soon =
+          let over : job.begin + pace.apart ≤ at = ltb-false at (job.begin + pace.apart) soon in
+          first_going at (due_behind pace.period at job) true (job ∷ jobs) (omega (arith, free, over)) by is sound
+
+  counted_going : (again : Bool) (job : Job) (jobs : List Job) → Going boundary now all (job ∷ jobs) → Going boundary now all (counted again job ∷ jobs)
+  counted_going true job jobs going = going
+  counted_going false job jobs going =
+      record { told = changed_told boundary job (counted false job) jobs going.free going.free ∙ going.told; sound = going.sound; free = going.free; last_open = going.last_open }
+
+  module _ (time : ℕ) (late : boundary ≤ time) (by : time ≤ now) where
+    woken_after_going : (pace : Pace) (job : Job) (jobs : List Job) → told boundary (job ∷ jobs) ≡ all → AreSound now (job ∷ jobs) →
+        (boundary ≤ job.begin) ⊎ (job.begin + pace.apart ≤ time) → Going boundary now all (woken_after pace time job jobs)
+    woken_after_going pace job jobs is sound ripe = which (nat_lt time (job.begin + pace.apart)) refl
       where
-        free : time < job.begin + apart → (boundary ≤ job.begin) ⊎ (job.begin + apart ≤ time) → boundary ≤ job.begin
+        free : time < job.begin + pace.apart → (boundary ≤ job.begin) ⊎ (job.begin + pace.apart ≤ time) → boundary ≤ job.begin
         free soon (inl before) = before
         free soon (inr over) = absurd (omega (arith, soon, over))
 
-        which : (b : Bool) → nat_lt time (job.begin + apart) ≡ b →
-            Going boundary now all (if not b then began time true (job ∷ jobs) else (if job.begin_known then reopened job ∷ jobs else began time false (job ∷ jobs)))
+        which : (b : Bool) → nat_lt time (job.begin + pace.apart) ≡ b →
+            Going boundary now all (if not b then began_behind pace.period time job jobs else (if job.begin_known then reopened job ∷ jobs else began time false (job ∷ jobs)))
         which true soon =
             either (Going boundary now all) job.begin_known (reopened job ∷ jobs) (began time false (job ∷ jobs))
-            (reopened_going job jobs (free (ltb-true time (job.begin + apart) soon) ripe) is sound) (new_going time false (job ∷ jobs) late by is sound)
-        which false soon = new_going time true (job ∷ jobs) late by is sound
+            (reopened_going job jobs (free (ltb-true time (job.begin + pace.apart) soon) ripe) is sound) (new_going time false (job ∷ jobs) late by is sound)
+        which false soon = first_going time (due_behind pace.period time job) true (job ∷ jobs) late by is sound
 
-    over : (apart : ℕ) (job : Job) (end : ℕ) → job.end ≡ ends.Ended end → (boundary ≤ job.begin) ⊎ IsRipeEnd (job.begin + apart) time job.end →
-        (boundary ≤ job.begin) ⊎ (job.begin + apart ≤ time)
-    over apart job end is (inl free) = inl free
-    over apart job end is (inr ripe) = inr (subst (IsRipeEnd (job.begin + apart) time) is ripe)
+    over : (pace : Pace) (job : Job) (end : ℕ) → job.end ≡ ends.Ended end → (boundary ≤ job.begin) ⊎ IsRipeEnd (job.begin + pace.apart) time job.end →
+        (boundary ≤ job.begin) ⊎ (job.begin + pace.apart ≤ time)
+    over pace job end is (inl free) = inl free
+    over pace job end is (inr ripe) = inr (subst (IsRipeEnd (job.begin + pace.apart) time) is ripe)
 
-    running_going : (on : Option Standing) (apart : ℕ) (jobs : List Job) → told boundary jobs ≡ all → AreSound now jobs → IsLeft boundary on jobs →
-        IsRipe boundary apart time jobs → Going boundary now all (running_jobs apart time jobs)
-    running_going on apart [] is sound last ripe = new_going time false [] late by is sound
-    running_going on apart (job ∷ jobs) is sound last ripe =
-        by_end (Going boundary now all) job.end (job ∷ jobs) (λ end. woken_after apart time job jobs)
-        (λ since goes_on. began time false (job ∷ jobs)) (λ since. began time false (job ∷ jobs))
+    running_going : (on : Option Standing) (pace : Pace) (jobs : List Job) → told boundary jobs ≡ all → AreSound now jobs → IsLeft boundary on jobs →
+        IsRipe boundary pace.apart time jobs → Going boundary now all (running_jobs pace time jobs)
+    running_going on pace [] is sound last ripe = new_going time false [] late by is sound
+    running_going on pace (job ∷ jobs) is sound last ripe =
+        by_end (Going boundary now all) job.end (job ∷ jobs) (λ end. woken_after pace time job jobs) (λ since. began time false (job ∷ jobs))
         (λ last_open. open_going on job jobs last_open is sound last)
-        (λ end is_ended. woken_after_going apart job jobs is sound (over apart job end is_ended ripe))
-        (λ since goes_on unseen. new_going time false (job ∷ jobs) late by is sound)
+        (λ end is_ended. woken_after_going pace job jobs is sound (over pace job end is_ended ripe))
         (λ since lost. new_going time false (job ∷ jobs) late by is sound)
 
-    counted_going : (again : Bool) (job : Job) (jobs : List Job) → Going boundary now all (job ∷ jobs) → Going boundary now all (counted again job ∷ jobs)
-    counted_going true job jobs going = going
-    counted_going false job jobs going =
-        record { told = changed_told boundary job (counted false job) jobs going.free going.free ∙ going.told; sound = going.sound; free = going.free; last_open = going.last_open }
+    found_going : (on : Option Standing) (certain : Bool) (jobs : List Job) → told boundary jobs ≡ all → AreSound now jobs → IsLeft boundary on jobs →
+        Going boundary now all (found_jobs time certain jobs)
+    found_going on certain [] is sound last = new_going time certain [] late by is sound
+    found_going on certain (job ∷ jobs) is sound last =
+        by_end (Going boundary now all) job.end (job ∷ jobs) (λ end. began time certain (job ∷ jobs)) (λ since. began time certain (job ∷ jobs))
+        (λ last_open. open_going on job jobs last_open is sound last)
+        (λ end is_ended. new_going time certain (job ∷ jobs) late by is sound)
+        (λ since lost. new_going time certain (job ∷ jobs) late by is sound)
 
-    woken_going : (on : Option Standing) (apart : ℕ) (again : Bool) (jobs : List Job) → told boundary jobs ≡ all → AreSound now jobs → IsLeft boundary on jobs →
-        IsRipe boundary apart time jobs → Going boundary now all (woken_jobs apart time again jobs)
-    woken_going on apart again [] is sound last ripe = new_going time true [] late by is sound
-    woken_going on apart again (job ∷ jobs) is sound last ripe =
-        by_end (Going boundary now all) job.end (counted again job ∷ jobs) (λ end. woken_after apart time job jobs)
-        (λ since goes_on. began time true (job ∷ jobs)) (λ since. began time true (job ∷ jobs))
+    woken_going : (on : Option Standing) (pace : Pace) (again : Bool) (jobs : List Job) → told boundary jobs ≡ all → AreSound now jobs → IsLeft boundary on jobs →
+        IsRipe boundary pace.apart time jobs → Going boundary now all (woken_jobs pace time again jobs)
+    woken_going on pace again [] is sound last ripe = new_going time true [] late by is sound
+    woken_going on pace again (job ∷ jobs) is sound last ripe =
+        by_end (Going boundary now all) job.end (counted again job ∷ jobs) (λ end. woken_after pace time job jobs) (λ since. began time true (job ∷ jobs))
         (λ last_open. counted_going again job jobs (open_going on job jobs last_open is sound last))
-        (λ end is_ended. woken_after_going apart job jobs is sound (over apart job end is_ended ripe))
-        (λ since goes_on unseen. new_going time true (job ∷ jobs) late by is sound)
+        (λ end is_ended. woken_after_going pace job jobs is sound (over pace job end is_ended ripe))
         (λ since lost. new_going time true (job ∷ jobs) late by is sound)
 
-    -- Where its thread had no switch yet, the open job has no stretch.
-    no_stretch : (job : Job) (jobs : List Job) (from to : ℕ) → job.end ≡ ends.Open → has_no_switch (job ∷ jobs) ≡ true → AreSpans from to job.stretches
-    no_stretch job jobs from to is none =
-        let parts : ((length job.stretches == 0) && not job.switch_missing) ≡ true = subst (λ (end : End). (elim end [
-          | ends.Open ↦ (length job.stretches == 0) && not job.switch_missing
-          | ends.Ended end ↦ false
-          | ends.Unseen last goes_on ↦ false
-          | ends.Lost last ↦ true
-        ]) ≡ true) is none in
-        empty job.stretches (eqb-true (length job.stretches) 0 (and_parts (length job.stretches == 0) (not job.switch_missing) parts).0)
+    begun_least : (job : Job) → (begun_at_most time job).begin ≤ time
+    begun_least job = by_least (nat_lt time job.begin) refl
       where
-        empty : (stretches : List Stretch) → length stretches ≡ 0 → AreSpans from to stretches
-        empty [] none = tt
-        empty (stretch ∷ stretches) none = absurd (omega (arith, none))
+        by_least : (b : Bool) → nat_lt time job.begin ≡ b → (if b then record job { begin = time; begin_known = false; due_from = time } else job).begin ≤ time
+        by_least true is = omega arith
+        by_least false is = ltb-false time job.begin is
 
     begun_last : (jobs : List Job) → IsLastBy time (begun_by time jobs)
     begun_last [] = omega arith
     begun_last (job ∷ jobs) =
-        by_end (IsLastBy time) job.end (begun_at_most time job ∷ jobs) (λ end. began time false (job ∷ jobs))
-        (λ since goes_on. began time false (job ∷ jobs)) (λ since. began time false (job ∷ jobs))
-        (λ is. le_refl time) (λ end is. le_refl time) (λ since goes_on is. le_refl time) (λ since is. le_refl time)
+        by_end (IsLastBy time) job.end (begun_at_most time job ∷ jobs) (λ end. began time false (job ∷ jobs)) (λ since. began time false (job ∷ jobs))
+        (λ is. begun_least job) (λ end is. le_refl time) (λ since is. le_refl time)
 
-    begun_going : (on : Option Standing) (jobs : List Job) → told boundary jobs ≡ all → AreSound now jobs → IsLeft boundary on jobs → has_no_switch jobs ≡ true →
-        Going boundary now all (begun_by time jobs)
-    begun_going on [] is sound last none = new_going time false [] late by is sound
-    begun_going on (job ∷ jobs) is sound last none =
-        by_end (Going boundary now all) job.end (begun_at_most time job ∷ jobs) (λ end. began time false (job ∷ jobs))
-        (λ since goes_on. began time false (job ∷ jobs)) (λ since. began time false (job ∷ jobs))
-        (λ last_open. record {
-          told = changed_told boundary job (begun_at_most time job) jobs (undone on job ends.Open last_open (λ done. done) last) late ∙ is;
-          sound = (
-            (by, sound.0.1, subst (λ (end : End). time ≤ latest now end) (sym last_open) by, no_stretch job jobs time (latest now job.end) last_open none),
-            sound.1,
-          );
-          free = late;
-          last_open = last_open;
-        })
+    -- an open job that began by then
+    begun_open : (job : Job) (jobs : List Job) → Going boundary now all (job ∷ jobs) → Going boundary now all (begun_at_most time job ∷ jobs)
+    begun_open job jobs going = by_begin (nat_lt time job.begin) refl
+      where
+        by_begin : (b : Bool) → nat_lt time job.begin ≡ b →
+            Going boundary now all ((if b then record job { begin = time; begin_known = false; due_from = time } else job) ∷ jobs)
+        by_begin true later =
+            let before : time < job.begin = ltb-true time job.begin later in
+            record {
+              told = changed_told boundary job (record job { begin = time; begin_known = false; due_from = time }) jobs going.free late ∙ going.told;
+              sound = (
+                (
+                  by,
+                  going.sound.0.1,
+                  omega (arith, before, going.sound.0.2),
+                  all_weaker (IsSpan job.begin (latest now job.end)) (IsSpan time (latest now job.end)) (λ stretch is. (omega (arith, before, is.0), is.1, is.2)) job.stretches
+                      going.sound.0.3,
+                  going.sound.0.4,
+                ),
+                going.sound.1,
+              );
+              free = late;
+              last_open = going.last_open;
+            }
+        by_begin false later = going
+
+    begun_going : (on : Option Standing) (jobs : List Job) → told boundary jobs ≡ all → AreSound now jobs → IsLeft boundary on jobs → Going boundary now all (begun_by time jobs)
+    begun_going on [] is sound last = new_going time false [] late by is sound
+    begun_going on (job ∷ jobs) is sound last =
+        by_end (Going boundary now all) job.end (begun_at_most time job ∷ jobs) (λ end. began time false (job ∷ jobs)) (λ since. began time false (job ∷ jobs))
+        (λ last_open. begun_open job jobs (open_going on job jobs last_open is sound last))
         (λ end is_ended. new_going time false (job ∷ jobs) late by is sound)
-        (λ since goes_on unseen. new_going time false (job ∷ jobs) late by is sound)
         (λ since lost. new_going time false (job ∷ jobs) late by is sound)
 
-  -- # Who comes back
+    -- # Who comes back
 
-  -- a job of which nothing more is known from the first of its sleeps on
-  slept_sound : (first end : ℕ) (job : Job) → job.end ≡ ends.Ended end → IsSound now job → IsSound now (lost_job first job)
-  slept_sound first end job is sound =
-      subst (λ (e : End). IsSound now (record job { end = lost_end first job.slept e })) (sym is) (by (nat_lt first end) refl)
-    where
-      before : end ≤ now
-      before = subst (IsSoundEnd now job.switch_missing) is sound.1
-
-      by : (b : Bool) → nat_lt first end ≡ b → IsSound now (record job { end = if b then ends.Lost (open_until first job.slept) else ends.Ended end })
-      by true earlier =
-          let early : first < end = ltb-true first end earlier in
-          other_end now job job.switch_missing (ends.Lost (open_until first job.slept)) sound (omega (arith, early, before)) (omega arith)
-      by false later = subst (λ (e : End). IsSound now (record job { end = e })) is sound
-
-  module _ (time : ℕ) (late : boundary ≤ time) (by : time ≤ now) where
-    slept_going : (slept : Option ℕ) (end : ℕ) (job : Job) (jobs : List Job) → job.end ≡ ends.Ended end → boundary ≤ job.begin →
-        told boundary (job ∷ jobs) ≡ all → AreSound now (job ∷ jobs) →
-        Going boundary now all (elim slept [ None ↦ went_on end job ∷ jobs | Some first ↦ began time false (lost_job first job ∷ jobs) ])
-    slept_going None end job jobs over free is sound =
+    went_going : (end : ℕ) (job : Job) (jobs : List Job) → job.end ≡ ends.Ended end → boundary ≤ job.begin → told boundary (job ∷ jobs) ≡ all → AreSound now (job ∷ jobs) →
+        Going boundary now all (went_on end job ∷ jobs)
+    went_going end job jobs is_ended free is sound =
+        let most : latest now job.end ≤ now = latest_by now job.end sound.0.1 in
+        let before : end ≤ now = subst (IsSoundEnd now) is_ended sound.0.1 in
         record {
           told = changed_told boundary job (went_on end job) jobs free free ∙ is;
-          sound = (other_end now job job.switch_missing ends.Open sound.0 tt (omega arith), sound.1);
+          sound = ((sound.0.0, tt, sound.0.0, wider job.begin (latest now job.end) now job.stretches most sound.0.3, before), sound.1);
           free = free;
           last_open = refl;
         }
-    slept_going (Some first) end job jobs over free is sound =
-        new_going time false (lost_job first job ∷ jobs) late by (changed_told boundary job (lost_job first job) jobs free free ∙ is)
-        (slept_sound first end job over sound.0, sound.1)
 
-    back_going : (apart end : ℕ) (started : Option ℕ) (job : Job) (jobs : List Job) → job.end ≡ ends.Ended end → boundary ≤ job.begin →
-        ((at : ℕ) → started ≡ Some at → (job.begin ≤ at) × (at ≤ now)) → told boundary (job ∷ jobs) ≡ all → AreSound now (job ∷ jobs) →
-        Going boundary now all (back_jobs apart time end started job jobs)
-    back_going apart end None job jobs over free starts is sound = slept_going job.slept end job jobs over free is sound
-    back_going apart end (Some at) job jobs over free starts is sound =
-        woken_after_going at (omega (arith, free, (starts at refl).0)) (starts at refl).1 apart job jobs is sound (inl free)
+    back_going : (pace : Pace) (end : ℕ) (ever : Bool) (started : Option ℕ) (job : Job) (jobs : List Job) → job.end ≡ ends.Ended end → boundary ≤ job.begin →
+        ((at : ℕ) → started ≡ Some at → ((job.begin ≤ at) ⊎ (job.begin_known ≡ true)) × (at ≤ now)) → told boundary (job ∷ jobs) ≡ all → AreSound now (job ∷ jobs) →
+        Going boundary now all (back_jobs pace time end ever started job jobs)
+    back_going pace end ever None job jobs is_ended free starts is sound =
+        either (Going boundary now all) (ever && is_none job.slept) (went_on end job ∷ jobs) (began time false (unended end job ∷ jobs))
+        (went_going end job jobs is_ended free is sound)
+        (new_going time false (unended end job ∷ jobs) late by (changed_told boundary job (unended end job) jobs free free ∙ is)
+        (unended_sound now end job is_ended sound.0, sound.1))
+    back_going pace end ever (Some at) job jobs is_ended free starts is sound =
+        woken_late_going pace at job jobs (starts at refl).1 free (starts at refl).0 is sound
 
-    come_going : (on : Option Standing) (apart : ℕ) (woken : Woken) (jobs : List Job) → told boundary jobs ≡ all → AreSound now jobs → IsLeft boundary on jobs →
-        IsStarted now woken jobs → IsBack boundary woken jobs → Going boundary now all (come_jobs apart time woken jobs)
-    come_going on apart woken [] is sound last starts back = new_going time false [] late by is sound
-    come_going on apart woken (job ∷ jobs) is sound last starts back =
+    come_going : (on : Option Standing) (pace : Pace) (woken : Woken) (jobs : List Job) → told boundary jobs ≡ all → AreSound now jobs → IsLeft boundary on jobs →
+        IsStarted now woken on jobs → IsBack boundary woken jobs → Going boundary now all (come_jobs pace time woken jobs)
+    come_going on pace woken [] is sound last starts back = new_going time false [] late by is sound
+    come_going on pace woken (job ∷ jobs) is sound last starts back =
         by_end (Going boundary now all) job.end (job ∷ jobs)
-        (λ end. if woken.seen then back_jobs apart time end woken.started job jobs else began time false (job ∷ jobs))
-        (λ since goes_on. if goes_on then reopened job ∷ jobs else began time false (job ∷ jobs)) (λ since. began time false (job ∷ jobs))
+        (λ end. if woken.seen then back_jobs pace time end woken.ever woken.started job jobs else began time false (job ∷ jobs)) (λ since. began time false (job ∷ jobs))
         (λ last_open. open_going on job jobs last_open is sound last)
-        (λ end is_ended. cond_both woken.seen (back_jobs apart time end woken.started job jobs) (began time false (job ∷ jobs)) (Going boundary now all)
-        (λ seen. back_going apart end woken.started job jobs is_ended (back end is_ended seen) (λ at begun. ((starts at begun).0.0, (starts at begun).1)) is sound)
+        (λ end is_ended. cond_both woken.seen (back_jobs pace time end woken.ever woken.started job jobs) (began time false (job ∷ jobs)) (Going boundary now all)
+        (λ seen. back_going pace end woken.ever woken.started job jobs is_ended (back end is_ended seen)
+        (λ at begun. (first_of at (starts at begun).0.0, (starts at begun).1)) is sound)
         (λ unknown. new_going time false (job ∷ jobs) late by is sound))
-        (λ since goes_on unseen. either (Going boundary now all) goes_on (reopened job ∷ jobs) (began time false (job ∷ jobs))
-        (reopened_going job jobs (undone on job (ends.Unseen since goes_on) unseen (λ done. done) last) is sound)
-        (new_going time false (job ∷ jobs) late by is sound))
         (λ since lost. new_going time false (job ∷ jobs) late by is sound)
+      where
+        first_of : (at : ℕ) → IsBegunBy at woken.seen job → (job.begin ≤ at) ⊎ (job.begin_known ≡ true)
+        first_of at (inl early) = inl early
+        first_of at (inr known) = inr known.0
 
   -- # A thread's switches
-
-  unseen_fresh : (came : ℕ) (goes_on : Bool) → came ≤ now → (jobs : List Job) → Fresh boundary now all jobs → Fresh boundary now all (changed_last (left_unseen came goes_on) jobs)
-  unseen_fresh came goes_on by = changed_fresh (left_unseen came goes_on) (λ job late sound.
-      (late, other_end now job true (ends.Unseen came goes_on) sound (by, refl) (omega arith)))
-
-  vanished_on : (wakes : Bool) (on : Option Standing) (known : Known) → Keeps boundary now all known → known.on ≡ on →
-      (let after : Known = elim on [
-        | None ↦ known
-        | Some standing ↦ record {
-          jobs = changed_last (left_unseen standing.came (wakes && not known.woken.came)) known.jobs;
-          on = None;
-          woken = record known.woken { started = None };
-        }
-      ] in Keeps boundary now all after)
-  vanished_on wakes None known keeps is = keeps
-  vanished_on wakes (Some standing) known keeps is =
-      let last : IsLeft boundary (Some standing) known.jobs = subst (λ (on : Option Standing). IsLeft boundary on known.jobs) is keeps.last in
-      let stands : StandsBy now (Some standing) known.jobs = subst (λ (on : Option Standing). StandsBy now on known.jobs) is keeps.stands in
-      fresh_keeps boundary now all _ (record known.woken { started = None })
-      (unseen_fresh standing.came (wakes && not known.woken.came) stands.0 known.jobs
-      (record { told = keeps.told; sound = keeps.sound; free = standing_free boundary standing known.jobs last }))
-      (none_started now known.woken.seen _)
-
-  vanished_keeps : (wakes : Bool) (known : Known) → Keeps boundary now all known → Keeps boundary now all (vanished wakes known)
-  vanished_keeps wakes known keeps = vanished_on wakes known.on known keeps refl
-
-  unseen_free : (came : ℕ) (goes_on : Bool) (jobs : List Job) → IsFree boundary jobs → IsFree boundary (changed_last (left_unseen came goes_on) jobs)
-  unseen_free came goes_on [] free = tt
-  unseen_free came goes_on (job ∷ jobs) free = free
-
-  vanished_ripe_on : (apart time : ℕ) (wakes : Bool) (on : Option Standing) (known : Known) → Keeps boundary now all known → known.on ≡ on →
-      IsRipe boundary apart time known.jobs →
-      (let after : Known = elim on [
-        | None ↦ known
-        | Some standing ↦ record {
-          jobs = changed_last (left_unseen standing.came (wakes && not known.woken.came)) known.jobs;
-          on = None;
-          woken = record known.woken { started = None };
-        }
-      ] in IsRipe boundary apart time after.jobs)
-  vanished_ripe_on apart time wakes None known keeps is ripe = ripe
-  vanished_ripe_on apart time wakes (Some standing) known keeps is ripe =
-      let last : IsLeft boundary (Some standing) known.jobs = subst (λ (on : Option Standing). IsLeft boundary on known.jobs) is keeps.last in
-      free_ripe boundary apart time (changed_last (left_unseen standing.came (wakes && not known.woken.came)) known.jobs)
-      (unseen_free standing.came (wakes && not known.woken.came) known.jobs (standing_free boundary standing known.jobs last))
-
-  vanished_ripe : (apart time : ℕ) (wakes : Bool) (known : Known) → Keeps boundary now all known → IsRipe boundary apart time known.jobs →
-      IsRipe boundary apart time (vanished wakes known).jobs
-  vanished_ripe apart time wakes known keeps ripe = vanished_ripe_on apart time wakes known.on known keeps refl ripe
-
-  -- One that isn't where it came to hasn't ended its job.
-  vanished_back_on : (wakes : Bool) (on : Option Standing) (known : Known) → IsBack boundary known.woken known.jobs →
-      (let after : Known = elim on [
-        | None ↦ known
-        | Some standing ↦ record {
-          jobs = changed_last (left_unseen standing.came (wakes && not known.woken.came)) known.jobs;
-          on = None;
-          woken = record known.woken { started = None };
-        }
-      ] in IsBack boundary after.woken after.jobs)
-  vanished_back_on wakes None known back = back
-  vanished_back_on wakes (Some standing) known back = by known.jobs
-    where
-      by : (jobs : List Job) → IsBack boundary (record known.woken { started = None }) (changed_last (left_unseen standing.came (wakes && not known.woken.came)) jobs)
-      by [] = tt
-      by (job ∷ jobs) = λ end is seen. absurd (cc is)
-
-  vanished_back : (wakes : Bool) (known : Known) → IsBack boundary known.woken known.jobs → IsBack boundary (vanished wakes known).woken (vanished wakes known).jobs
-  vanished_back wakes known back = vanished_back_on wakes known.on known back
-
-  passed_back : (wakes : Bool) (processor : ℕ) (known : Known) → IsBack boundary known.woken known.jobs →
-      IsBack boundary (passed_by wakes processor known).woken (passed_by wakes processor known).jobs
-  passed_back wakes processor known back =
-      either (λ (one : Known). IsBack boundary one.woken one.jobs) (stands_on processor known.on) (vanished wakes known) known (vanished_back wakes known back) back
-
-  passed_keeps : (wakes : Bool) (processor : ℕ) (known : Known) → Keeps boundary now all known → Keeps boundary now all (passed_by wakes processor known)
-  passed_keeps wakes processor known keeps =
-      either (Keeps boundary now all) (stands_on processor known.on) (vanished wakes known) known (vanished_keeps wakes known keeps) keeps
-
-  passed_ripe : (apart time : ℕ) (wakes : Bool) (processor : ℕ) (known : Known) → Keeps boundary now all known → IsRipe boundary apart time known.jobs →
-      IsRipe boundary apart time (passed_by wakes processor known).jobs
-  passed_ripe apart time wakes processor known keeps ripe =
-      either (λ (one : Known). IsRipe boundary apart time one.jobs) (stands_on processor known.on) (vanished wakes known) known
-      (vanished_ripe apart time wakes known keeps ripe) ripe
 
   -- each job began by now
   last_by : (time : ℕ) (jobs : List Job) → now ≤ time → AreSound now jobs → IsLastBy time jobs
   last_by time [] at sound = tt
   last_by time (job ∷ jobs) at sound = omega (arith, at, sound.0.0)
 
-  comes_keeps : (apart : ℕ) (wakes : Bool) (processor time : ℕ) (known : Known) → boundary ≤ time → time ≤ now → now ≤ time → Keeps boundary now all known →
-      IsRipe boundary apart time known.jobs → (wakes ≡ true → IsBack boundary known.woken known.jobs) → Keeps boundary now all (comes apart wakes processor time known)
-  comes_keeps apart wakes processor time known late by at keeps ripe back =
-      let gone : Keeps boundary now all (vanished wakes known) = vanished_keeps wakes known keeps in
-      let going : Going boundary now all (if wakes then come_jobs apart time (vanished wakes known).woken (vanished wakes known).jobs else running_jobs apart time (vanished wakes known).jobs) =
-      cond_both wakes (come_jobs apart time (vanished wakes known).woken (vanished wakes known).jobs) (running_jobs apart time (vanished wakes known).jobs) (Going boundary now all)
-      (λ woken. come_going time late by (vanished wakes known).on apart (vanished wakes known).woken (vanished wakes known).jobs gone.told gone.sound gone.last gone.started
-      (vanished_back wakes known (back woken)))
-      (λ at_run. running_going time late by (vanished wakes known).on apart (vanished wakes known).jobs gone.told gone.sound gone.last
-      (vanished_ripe apart time wakes known keeps ripe)) in
+  comes_keeps : (pace : Pace) (wakes : Bool) (processor time : ℕ) (known : Known) → boundary ≤ time → time ≤ now → now ≤ time → Keeps boundary now all known →
+      IsRipe boundary pace.apart time known.jobs → (wakes ≡ true → IsBack boundary known.woken known.jobs) → Keeps boundary now all (comes pace wakes processor time known)
+  comes_keeps pace wakes processor time known late by at keeps ripe back =
+      let going : Going boundary now all (if wakes then come_jobs pace time known.woken known.jobs else running_jobs pace time known.jobs) =
+      cond_both wakes (come_jobs pace time known.woken known.jobs) (running_jobs pace time known.jobs) (Going boundary now all)
+      (λ woken. come_going time late by known.on pace known.woken known.jobs keeps.told keeps.sound keeps.last keeps.started (back woken))
+      (λ at_run. running_going time late by known.on pace known.jobs keeps.told keeps.sound keeps.last ripe) in
       record {
         told = going.told;
         sound = going.sound;
         last = free_left boundary (Some (record { processor = processor; came = time; since = time })) _ going.free;
-        stands = (by, going.last_open, last_by time _ at going.sound, by);
-        started = none_started now true _;
+        stands = (omega arith, going.last_open, last_by time _ at going.sound, by);
+        started = none_started now true (Some (record { processor = processor; came = time; since = time })) _;
       }
 
-  -- It leaves: since when all is told of its processor is known.
-  here_fresh : (leaving : Leaving) (on : Option Standing) (jobs : List Job) → leaving.time ≤ now → now ≤ leaving.time → told boundary jobs ≡ all → AreSound now jobs →
-      IsLeft boundary on jobs → StandsBy now on jobs → stands_on leaving.processor on ≡ true →
-      Fresh boundary now all (elim on [ None ↦ jobs | Some standing ↦ changed_last (ran (stretch_of leaving standing.since)) jobs ])
-  here_fresh leaving None jobs by at is sound last stands there = cc
-  here_fresh leaving (Some standing) jobs by at is sound last stands there =
-      ran_going (stretch_of leaving standing.since) jobs stands.2 (omega (arith, stands.3, at)) by
-      (record { told = is; sound = sound; free = standing_free boundary standing jobs last; last_open = stands.1 })
+  -- it leaves, and wasn't seen to come
+  left_unseen_fresh : (pace : Pace) (wakes torn : Bool) (leaving : Leaving) (known : Known) → boundary ≤ leaving.time → leaving.time ≤ now → now ≤ leaving.time →
+      leaving.lines_since ≤ now → (is_none leaving.switched ≡ true → boundary ≤ leaving.lines_since) →
+      (wakes ≡ true → leaving.renamed ≡ false → (not torn && is_none leaving.switched && not known.woken.seen) ≡ false → IsBack boundary known.woken known.jobs) →
+      Keeps boundary now all known → Fresh boundary now all (left_unseen pace wakes torn leaving known)
+  left_unseen_fresh pace wakes torn leaving known late by at since whole back keeps =
+      let first : Bool = not torn && is_none leaving.switched && not known.woken.seen in
+      let there : List Job = changed_last (ran (stretch_of leaving leaving.lines_since)) (begun_by leaving.lines_since known.jobs) in
+      let come : List Job = if wakes then come_jobs pace leaving.time known.woken known.jobs else found_jobs leaving.time false known.jobs in
+      cond_both leaving.renamed (found_jobs leaving.time true known.jobs) (if first then there else changed_last missing come) (Fresh boundary now all)
+      (λ renamed. going_fresh boundary now all (found_jobs leaving.time true known.jobs)
+      (found_going leaving.time late by known.on true known.jobs keeps.told keeps.sound keeps.last))
+      (λ listed. cond_both first there (changed_last missing come) (Fresh boundary now all)
+      (λ is.
+      let low : boundary ≤ leaving.lines_since =
+      whole (and_parts (not torn) (is_none leaving.switched) (and_parts (not torn && is_none leaving.switched) (not known.woken.seen) is).0).1 in
+      ran_going (stretch_of leaving leaving.lines_since) (begun_by leaving.lines_since known.jobs) (begun_last leaving.lines_since low since known.jobs)
+      (omega (arith, since, at)) by (begun_going leaving.lines_since low since known.on known.jobs keeps.told keeps.sound keeps.last))
+      (λ other. going_fresh boundary now all (changed_last missing come)
+      (missing_going come (cond_both wakes (come_jobs pace leaving.time known.woken known.jobs) (found_jobs leaving.time false known.jobs) (Going boundary now all)
+      (λ woken. come_going leaving.time late by known.on pace known.woken known.jobs keeps.told keeps.sound keeps.last keeps.started (back woken listed other))
+      (λ at_run. found_going leaving.time late by known.on false known.jobs keeps.told keeps.sound keeps.last)))))
 
-  left_from_fresh : (wakes : Bool) (leaving : Leaving) (known : Known) → boundary ≤ leaving.time → leaving.time ≤ now → now ≤ leaving.time → leaving.whole_since ≤ now →
-      (leaving.has_switched ≡ false → boundary ≤ leaving.whole_since) → Keeps boundary now all known → Fresh boundary now all (left_from wakes leaving known)
-  left_from_fresh wakes leaving known late by at since whole keeps =
-      cond_both (stands_on leaving.processor known.on)
-      (elim known.on [ None ↦ known.jobs | Some standing ↦ changed_last (ran (stretch_of leaving standing.since)) known.jobs ])
-      (if is_none known.on && not leaving.has_switched && is_new known
-      then changed_last (ran (stretch_of leaving leaving.whole_since)) (begun_by leaving.whole_since known.jobs)
-      else changed_last missing (awake_jobs leaving.time (vanished wakes known).jobs)) (Fresh boundary now all)
-      (here_fresh leaving known.on known.jobs by at keeps.told keeps.sound keeps.last keeps.stands)
-      (λ there. cond_both (is_none known.on && not leaving.has_switched && is_new known)
-      (changed_last (ran (stretch_of leaving leaving.whole_since)) (begun_by leaving.whole_since known.jobs))
-      (changed_last missing (awake_jobs leaving.time (vanished wakes known).jobs)) (Fresh boundary now all)
-      (λ first.
-      let parts = and_parts (is_none known.on && not leaving.has_switched) (is_new known) first in
-      let two = and_parts (is_none known.on) (not leaving.has_switched) parts.0 in
-      let low : boundary ≤ leaving.whole_since = whole (not-true leaving.has_switched two.1) in
-      ran_going (stretch_of leaving leaving.whole_since) (begun_by leaving.whole_since known.jobs) (begun_last leaving.whole_since low since known.jobs)
-      (omega (arith, since, at)) by (begun_going leaving.whole_since low since known.on known.jobs keeps.told keeps.sound keeps.last (and_parts (not known.woken.seen) (has_no_switch known.jobs) parts.1).1))
-      (λ other.
-      let gone : Keeps boundary now all (vanished wakes known) = vanished_keeps wakes known keeps in
-      going_fresh boundary now all (changed_last missing (awake_jobs leaving.time (vanished wakes known).jobs))
-      (missing_going (awake_jobs leaving.time (vanished wakes known).jobs)
-      (awake_going leaving.time late by (vanished wakes known).on (vanished wakes known).jobs gone.told gone.sound gone.last))))
+  left_from_fresh : (pace : Pace) (wakes torn : Bool) (leaving : Leaving) (known : Known) → boundary ≤ leaving.time → leaving.time ≤ now → now ≤ leaving.time →
+      leaving.lines_since ≤ now → (is_none leaving.switched ≡ true → boundary ≤ leaving.lines_since) →
+      (known.on ≡ None → wakes ≡ true → leaving.renamed ≡ false → (not torn && is_none leaving.switched && not known.woken.seen) ≡ false → IsBack boundary known.woken known.jobs) →
+      Keeps boundary now all known → Fresh boundary now all (left_from pace wakes torn leaving known)
+  left_from_fresh pace wakes torn leaving known late by at since whole back keeps = from known.on refl
+    where
+      from : (on : Option Standing) → known.on ≡ on → Fresh boundary now all (elim on [
+        | None ↦ left_unseen pace wakes torn leaving known
+        | Some standing ↦ changed_last (ran (stretch_of leaving standing.since)) known.jobs
+      ])
+      from None is = left_unseen_fresh pace wakes torn leaving known late by at since whole (back is) keeps
+      from (Some standing) is =
+          let last : IsLeft boundary (Some standing) known.jobs = subst (λ (on : Option Standing). IsLeft boundary on known.jobs) is keeps.last in
+          let stands : StandsBy now (Some standing) known.jobs = subst (λ (on : Option Standing). StandsBy now on known.jobs) is keeps.stands in
+          ran_going (stretch_of leaving standing.since) known.jobs stands.2 (omega (arith, stands.3, at)) by
+          (record { told = keeps.told; sound = keeps.sound; free = standing_free boundary standing known.jobs last; last_open = stands.1 })
 
-  left_in_fresh : (wakes : Bool) (state : State) (time : ℕ) (jobs : List Job) → time ≤ now → now ≤ time → Fresh boundary now all jobs → Fresh boundary now all
-      (left_in wakes state time jobs)
-  left_in_fresh wakes states.GoesOn time jobs by at fresh = fresh
-  left_in_fresh wakes states.Sleeps time jobs by at fresh =
-      changed_fresh (ended time) (λ job late sound. (late, other_end now job job.switch_missing (ends.Ended time) sound by at)) jobs fresh
-  left_in_fresh wakes states.Exits time jobs by at fresh =
-      changed_fresh (exits time) (λ job late sound. (late, other_end now job job.switch_missing (ends.Ended time) sound by at)) jobs fresh
-  left_in_fresh wakes states.Unknown time jobs by at fresh = unseen_fresh time wakes by jobs fresh
+  left_in_fresh : (state : State) (time : ℕ) (jobs : List Job) → time ≤ now → now ≤ time → Fresh boundary now all jobs → Fresh boundary now all (left_in state time jobs)
+  left_in_fresh states.GoesOn time jobs by at fresh = fresh
+  left_in_fresh states.Sleeps time jobs by at fresh =
+      changed_fresh (ended time) (λ job late sound. (late, other_end now job (ends.Ended time) sound by at)) jobs fresh
+  left_in_fresh states.Exits time jobs by at fresh =
+      changed_fresh (exits time) (λ job late sound. (late, other_end now job (ends.Ended time) sound by at)) jobs fresh
+  left_in_fresh states.Unknown time jobs by at fresh =
+      changed_fresh (lost_job time) (λ job late sound. (late, lost_end_sound now time job.slept job job.end by refl sound)) jobs fresh
 
-  -- A wake-up that was started before it leaves is behind the last job's begin still.
-  ran_last : (at : ℕ) (seen : Bool) (leaving : Leaving) (on : Option Standing) (jobs : List Job) → IsLastAwaited at seen jobs →
-      IsLastAwaited at seen (elim on [ None ↦ jobs | Some standing ↦ changed_last (ran (stretch_of leaving standing.since)) jobs ])
-  ran_last at seen leaving None jobs last = last
-  ran_last at seen leaving (Some standing) [] last = absurd last
-  ran_last at seen leaving (Some standing) (job ∷ jobs) last = last
+  -- # A wake-up that was started before it leaves
 
-  ended_last : (at time : ℕ) (seen : Bool) (jobs : List Job) → IsLastAwaited at seen jobs → IsLastAwaited at true (changed_last (ended time) jobs)
-  ended_last at time seen [] last = absurd last
-  ended_last at time seen (job ∷ jobs) last = (last.0, refl)
+  seen_begun : (at : ℕ) (seen : Bool) (job : Job) → IsBegunBy at seen job → IsBegunBy at true job
+  seen_begun at seen job (inl early) = inl early
+  seen_begun at seen job (inr known) = inr (known.0, refl)
 
-  sleeps_started : (wakes : Bool) (leaving : Leaving) (known : Known) (b : Bool) → stands_on leaving.processor known.on ≡ b → IsStarted now known.woken known.jobs →
-      (at : ℕ) → (if b then known.woken.started else None) ≡ Some at → IsLastAwaited at true (changed_last (ended leaving.time) (left_from wakes leaving known)) × (at ≤ now)
-  sleeps_started wakes leaving known true there started at is = (
-    ended_last at leaving.time known.woken.seen (left_from wakes leaving known)
-        (subst (λ (stands : Bool). IsLastAwaited at known.woken.seen (if stands then (elim known.on [ None ↦ known.jobs | Some standing ↦ changed_last (ran (stretch_of leaving standing.since)) known.jobs ])
-        else (if is_none known.on && not leaving.has_switched && is_new known
-        then changed_last (ran (stretch_of leaving leaving.whole_since)) (begun_by leaving.whole_since known.jobs)
-        else changed_last missing (awake_jobs leaving.time (vanished wakes known).jobs)))) (sym there)
-        (ran_last at known.woken.seen leaving known.on known.jobs (started at is).0)),
+  -- who leaves has a last job that began before that wake-up, or by another name
+  abbrev HasBegun : ℕ → List Job → Type 0
+  HasBegun at [] = ⊥
+  HasBegun at (job ∷ jobs) = IsBegunBy at true job
+
+  last_begun : (at : ℕ) (seen : Bool) (jobs : List Job) → IsLastAwaited at seen jobs → HasBegun at jobs
+  last_begun at seen [] last = absurd last
+  last_begun at seen (job ∷ jobs) last = seen_begun at seen job last.0
+
+  changed_begun : (change : Job → Job) → ((at : ℕ) (job : Job) → IsBegunBy at true job → IsBegunBy at true (change job)) → (at : ℕ) (jobs : List Job) → HasBegun at jobs →
+      HasBegun at (changed_last change jobs)
+  changed_begun change keeps at [] begun = absurd begun
+  changed_begun change keeps at (job ∷ jobs) begun = keeps at job begun
+
+  found_begun : (at time : ℕ) (seen : Bool) (jobs : List Job) → IsLastAwaited at seen jobs → HasBegun at (found_jobs time true jobs)
+  found_begun at time seen [] last = absurd last
+  found_begun at time seen (job ∷ jobs) last =
+      by_end (HasBegun at) job.end (job ∷ jobs) (λ end. began time true (job ∷ jobs)) (λ since. began time true (job ∷ jobs))
+      (λ is. seen_begun at seen job last.0) (λ end is. inr (refl, refl)) (λ since is. inr (refl, refl))
+
+  by_begun : (at time : ℕ) (seen : Bool) (jobs : List Job) → seen ≡ false → IsLastAwaited at seen jobs → HasBegun at (begun_by time jobs)
+  by_begun at time seen [] unseen last = absurd last
+  by_begun at time seen (job ∷ jobs) unseen last =
+      by_end (HasBegun at) job.end (begun_at_most time job ∷ jobs) (λ end. began time false (job ∷ jobs)) (λ since. began time false (job ∷ jobs))
+      (λ is. inl (least (nat_lt time job.begin) refl (early last.0)))
+      (λ end is. absurd (let no : false ≡ true = sym unseen ∙ subst (IsAwaited seen) is last.1 in false≢true no))
+      (λ since is. absurd (subst (IsAwaited seen) is last.1))
+    where
+      early : IsBegunBy at seen job → job.begin ≤ at
+      early (inl before) = before
+      early (inr known) = absurd (let no : false ≡ true = sym unseen ∙ known.1 in false≢true no)
+
+      least : (b : Bool) → nat_lt time job.begin ≡ b → job.begin ≤ at → (if b then record job { begin = time; begin_known = false; due_from = time } else job).begin ≤ at
+      least true is before = let less : time < job.begin = ltb-true time job.begin is in omega (arith, less, before)
+      least false is before = before
+
+  woken_begun : (pace : Pace) (at : ℕ) (job : Job) (jobs : List Job) → IsBegunBy at true job → HasBegun at (woken_after pace at job jobs)
+  woken_begun pace at job jobs begun =
+      either (HasBegun at) (not (nat_lt at (job.begin + pace.apart))) (began_behind pace.period at job jobs)
+      (if job.begin_known then reopened job ∷ jobs else began at false (job ∷ jobs)) (inl (omega arith))
+      (either (HasBegun at) job.begin_known (reopened job ∷ jobs) (began at false (job ∷ jobs)) begun (inl (omega arith)))
+
+  come_begun : (pace : Pace) (at time : ℕ) (woken : Woken) (jobs : List Job) → woken.started ≡ Some at → IsLastAwaited at woken.seen jobs → HasBegun at (come_jobs pace time woken jobs)
+  come_begun pace at time woken [] is last = absurd last
+  come_begun pace at time woken (job ∷ jobs) is last =
+      by_end (HasBegun at) job.end (job ∷ jobs) (λ end. if woken.seen then back_jobs pace time end woken.ever woken.started job jobs else began time false (job ∷ jobs))
+      (λ since. began time false (job ∷ jobs)) (λ still. seen_begun at woken.seen job last.0)
+      (λ end is_ended. cond_both woken.seen (back_jobs pace time end woken.ever woken.started job jobs) (began time false (job ∷ jobs)) (HasBegun at)
+      (λ seen. subst (λ (started : Option ℕ). HasBegun at (back_jobs pace time end woken.ever started job jobs)) (sym is)
+      (woken_begun pace at job jobs (seen_begun at woken.seen job last.0)))
+      (λ unseen. absurd (let no : false ≡ true = sym unseen ∙ subst (IsAwaited woken.seen) is_ended last.1 in false≢true no)))
+      (λ since is_lost. absurd (subst (IsAwaited woken.seen) is_lost last.1))
+
+  left_begun : (pace : Pace) (wakes torn : Bool) (leaving : Leaving) (known : Known) (at : ℕ) → (wakes ≡ false → known.woken.started ≡ None) → known.woken.started ≡ Some at →
+      IsLastAwaited at known.woken.seen known.jobs → HasBegun at (left_from pace wakes torn leaving known)
+  left_begun pace wakes torn leaving known at none is last = from known.on
+    where
+      from : (on : Option Standing) → HasBegun at (elim on [
+        | None ↦ left_unseen pace wakes torn leaving known
+        | Some standing ↦ changed_last (ran (stretch_of leaving standing.since)) known.jobs
+      ])
+      from (Some standing) =
+          changed_begun (ran (stretch_of leaving standing.since)) (λ at job begun. begun) at known.jobs (last_begun at known.woken.seen known.jobs last)
+      from None =
+          let first : Bool = not torn && is_none leaving.switched && not known.woken.seen in
+          let there : List Job = changed_last (ran (stretch_of leaving leaving.lines_since)) (begun_by leaving.lines_since known.jobs) in
+          let come : List Job = if wakes then come_jobs pace leaving.time known.woken known.jobs else found_jobs leaving.time false known.jobs in
+          either (HasBegun at) leaving.renamed (found_jobs leaving.time true known.jobs) (if first then there else changed_last missing come)
+          (found_begun at leaving.time known.woken.seen known.jobs last)
+          (cond_both first there (changed_last missing come) (HasBegun at)
+          (λ unseen. changed_begun (ran (stretch_of leaving leaving.lines_since)) (λ at job begun. begun) at (begun_by leaving.lines_since known.jobs)
+          (by_begun at leaving.lines_since known.woken.seen known.jobs
+          (not-true known.woken.seen (and_parts (not torn && is_none leaving.switched) (not known.woken.seen) unseen).1) last))
+          (λ other. changed_begun missing (λ at job begun. begun) at come
+          (cond_both wakes (come_jobs pace leaving.time known.woken known.jobs) (found_jobs leaving.time false known.jobs) (HasBegun at)
+          (λ woken. come_begun pace at leaving.time known.woken known.jobs is last)
+          (λ at_run. absurd (let no : None ≡ Some at = sym (none at_run) ∙ is in cc no)))))
+
+  ended_awaited : (at time : ℕ) (jobs : List Job) → HasBegun at jobs → IsLastAwaited at true (changed_last (ended time) jobs)
+  ended_awaited at time [] begun = absurd begun
+  ended_awaited at time (job ∷ jobs) begun = (begun, refl)
+
+  leaves_started : (pace : Pace) (wakes torn : Bool) (state : State) (leaving : Leaving) (known : Known) → (wakes ≡ false → known.woken.started ≡ None) →
+      IsStarted now known.woken known.on known.jobs → IsStarted now (leaves pace wakes torn state leaving known).woken None (leaves pace wakes torn state leaving known).jobs
+  leaves_started pace wakes torn states.Sleeps leaving known none started = λ at is. (
+    ended_awaited at leaving.time (left_from pace wakes torn leaving known) (left_begun pace wakes torn leaving known at none is (started at is).0),
     (started at is).1,
+    tt,
   )
-  sleeps_started wakes leaving known false there started at is = absurd (cc is)
+  leaves_started pace wakes torn states.GoesOn leaving known none started = none_started now true None _
+  leaves_started pace wakes torn states.Exits leaving known none started = none_started now true None _
+  leaves_started pace wakes torn states.Unknown leaving known none started = none_started now true None _
 
-  leaves_started : (wakes : Bool) (state : State) (leaving : Leaving) (known : Known) → IsStarted now known.woken known.jobs →
-      IsStarted now (leaves wakes state leaving known).woken (leaves wakes state leaving known).jobs
-  leaves_started wakes states.Sleeps leaving known started = sleeps_started wakes leaving known (stands_on leaving.processor known.on) refl started
-  leaves_started wakes states.GoesOn leaving known started = none_started now true _
-  leaves_started wakes states.Exits leaving known started = none_started now true _
-  leaves_started wakes states.Unknown leaving known started = none_started now true _
+  -- # A switch
 
-  leaves_fresh : (wakes : Bool) (state : State) (leaving : Leaving) (known : Known) → boundary ≤ leaving.time → leaving.time ≤ now → now ≤ leaving.time → leaving.whole_since ≤ now →
-      (leaving.has_switched ≡ false → boundary ≤ leaving.whole_since) → Keeps boundary now all known → Fresh boundary now all (leaves wakes state leaving known).jobs
-  leaves_fresh wakes state leaving known late by at since whole keeps =
-      left_in_fresh wakes state leaving.time (left_from wakes leaving known) by at (left_from_fresh wakes leaving known late by at since whole keeps)
+  -- who has another processor, where switches are missing
+  torn_jobs_keeps : (since : ℕ) (standing : Standing) (known : Known) → known.on ≡ Some standing → boundary ≤ since → since ≤ now →
+      Each (λ job. IsKnownBy since job.end) boundary known.jobs → Keeps boundary now all known →
+      Keeps boundary now all (record known { jobs = torn_jobs since standing.came known.jobs })
+  torn_jobs_keeps since standing known on low by ends_known keeps = which (nat_lt since standing.came) refl
+    where
+      stands : StandsBy now (Some standing) known.jobs
+      stands = subst (λ (on : Option Standing). StandsBy now on known.jobs) on keeps.stands
+
+      come : (at : ℕ) → HasCome at known.on → standing.came ≤ at
+      come at has = subst (HasCome at) on has
+
+      which : (b : Bool) → nat_lt since standing.came ≡ b →
+          Keeps boundary now all (record known { jobs = if b then began standing.came false (map (lost_job since) known.jobs) else known.jobs })
+      which true later =
+          let after : since < standing.came = ltb-true since standing.came later in
+          let going : Going boundary now all (began standing.came false (map (lost_job since) known.jobs)) =
+          new_going standing.came false (map (lost_job since) known.jobs) (omega (arith, low, after)) (omega (arith, stands.0, stands.3))
+          (lost_told boundary since known.jobs ends_known ∙ keeps.told) (lost_sound now since known.jobs by keeps.sound) in
+          record {
+            told = going.told;
+            sound = going.sound;
+            last = free_left boundary known.on (began standing.came false (map (lost_job since) known.jobs)) going.free;
+            stands = subst (λ (on : Option Standing). StandsBy now on (began standing.came false (map (lost_job since) known.jobs))) (sym on)
+                (stands.0, going.last_open, stands.0, stands.3);
+            started = λ at is. ((inl (come at (keeps.started at is).2), tt), (keeps.started at is).1, (keeps.started at is).2);
+          }
+      which false other = keeps
+
+  -- what is known behind the switches that are missing
+  torn_if_keeps : (left came : Bool) (processor : ℕ) (since : Option ℕ) (known : Known) →
+      ((s : ℕ) → since ≡ Some s → (boundary ≤ s) × (s ≤ now) × Each (λ job. IsKnownBy s job.end) boundary known.jobs) →
+      Keeps boundary now all known → Keeps boundary now all (torn_if left came processor since known)
+  torn_if_keeps left came processor None known known_by keeps = keeps
+  torn_if_keeps left came processor (Some since) known known_by keeps = from known.on refl
+    where
+      lost : Keeps boundary now all (loses since known)
+      lost = loses_keeps boundary now all since known (known_by since refl).1 (known_by since refl).2 keeps
+
+      from : (on : Option Standing) → known.on ≡ on → (let after : Known = elim on [
+        | None ↦ loses since known
+        | Some standing ↦ if left || came || (standing.processor == processor) then loses since known
+            else record known { jobs = torn_jobs since standing.came known.jobs }
+      ] in Keeps boundary now all after)
+      from None is = lost
+      from (Some standing) is =
+          either (Keeps boundary now all) (left || came || (standing.processor == processor)) (loses since known)
+          (record known { jobs = torn_jobs since standing.came known.jobs }) lost
+          (torn_jobs_keeps since standing known is (known_by since refl).0 (known_by since refl).1 (known_by since refl).2 keeps)
+
+  -- a thread that leaves or comes is lost
+  torn_own : (P : Known → Type 0) (left came : Bool) (processor since : ℕ) (known : Known) → (left || came) ≡ true → P (loses since known) →
+      P (torn left came processor since known)
+  torn_own P left came processor since known mine is = from known.on
+    where
+      other : (standing : Standing) (b : Bool) → b ≡ true →
+          P (if b || (standing.processor == processor) then loses since known else record known { jobs = torn_jobs since standing.came known.jobs })
+      other standing true own = is
+      other standing false own = absurd (false≢true own)
+
+      from : (on : Option Standing) → (let after : Known = elim on [
+        | None ↦ loses since known
+        | Some standing ↦ if left || came || (standing.processor == processor) then loses since known
+            else record known { jobs = torn_jobs since standing.came known.jobs }
+      ] in P after)
+      from None = is
+      from (Some standing) = other standing (left || came) mine
+
+  either_true : (b : Bool) → (b || true) ≡ true
+  either_true true = refl
+  either_true false = refl
+
+  -- What a thread that is there, and wasn't seen to come, slept in: a wake-up was started before it.
+  called_back : (wakes : Bool) (leaving : Leaving) (known : Known) → is_there wakes leaving known ≡ true → wakes ≡ true → leaving.renamed ≡ false →
+      (is_none leaving.switched && not known.woken.seen) ≡ false → ((at : ℕ) → known.woken.started ≡ Some at → IsBack boundary known.woken known.jobs) →
+      IsBack boundary known.woken known.jobs
+  called_back wakes leaving known there woken listed other back =
+      awake (is_awake known) refl (fourth leaving.renamed (is_none leaving.switched && not known.woken.seen) (not wakes) (is_awake known) there listed other (ap not woken))
+    where
+      fourth : (a b c d : Bool) → (a || b || c || d) ≡ true → a ≡ false → b ≡ false → c ≡ false → d ≡ true
+      fourth true b c d one first second third = absurd (let no : false ≡ true = sym first in false≢true no)
+      fourth false true c d one first second third = absurd (let no : false ≡ true = sym second in false≢true no)
+      fourth false false true d one first second third = absurd (let no : false ≡ true = sym third in false≢true no)
+      fourth false false false d one first second third = one
+
+      is_called : (started : Option ℕ) → known.woken.started ≡ started → is_some started ≡ true → IsBack boundary known.woken known.jobs
+      is_called None is some = absurd (false≢true some)
+      is_called (Some at) is some = back at is
+
+      of_jobs : (jobs : List Job) → known.jobs ≡ jobs → (elim jobs as (λ _. Bool) [ [] ↦ false | job ∷ more ↦ is_open_or_woken known.woken job.end ]) ≡ true →
+          IsBack boundary known.woken jobs
+      of_jobs [] is is_so = tt
+      of_jobs (job ∷ jobs) is is_so = λ end ended seen.
+          let both : (known.woken.seen && is_some known.woken.started) ≡ true = subst (λ (e : End). is_open_or_woken known.woken e ≡ true) ended is_so in
+          subst (IsBack boundary known.woken) is
+          (is_called known.woken.started refl (and_parts known.woken.seen (is_some known.woken.started) both).1) end ended seen
+
+      awake : (b : Bool) → is_awake known ≡ b → b ≡ true → IsBack boundary known.woken known.jobs
+      awake b is so = of_jobs known.jobs refl (is ∙ so)
+
+  -- It leaves, behind the switches that are missing before.
+  leaves_keeps : (pace : Pace) (wakes torn : Bool) (state : State) (leaving : Leaving) (known : Known) → boundary ≤ leaving.time → leaving.time ≤ now → now ≤ leaving.time →
+      leaving.lines_since ≤ now → (is_none leaving.switched ≡ true → boundary ≤ leaving.lines_since) →
+      (known.on ≡ None → wakes ≡ true → leaving.renamed ≡ false → (not torn && is_none leaving.switched && not known.woken.seen) ≡ false → IsBack boundary known.woken known.jobs) →
+      (wakes ≡ false → known.woken.started ≡ None) → Keeps boundary now all known →
+      Keeps boundary now all (leaves pace wakes torn state leaving known) × IsFree boundary (leaves pace wakes torn state leaving known).jobs
+  leaves_keeps pace wakes torn state leaving known late by at since whole back none keeps =
+      let after : Known = leaves pace wakes torn state leaving known in
+      let fresh : Fresh boundary now all after.jobs =
+      left_in_fresh state leaving.time (left_from pace wakes torn leaving known) by at (left_from_fresh pace wakes torn leaving known late by at since whole back keeps) in
+      (fresh_keeps boundary now all after.jobs after.woken fresh (leaves_started pace wakes torn state leaving known none keeps.started), fresh.free)
 
   -- Who leaves, and who comes. Only where the thread comes that didn't leave just before, no wake-up may go on with its last job.
-  pub switch_keeps : (apart : ℕ) (wakes left came : Bool) (state : State) (leaving : Leaving) (known : Known) → boundary ≤ leaving.time → leaving.time ≤ now →
-      now ≤ leaving.time → leaving.whole_since ≤ now → (left ≡ true → leaving.has_switched ≡ false → boundary ≤ leaving.whole_since) →
-      (left ≡ false → came ≡ true → IsRipe boundary apart leaving.time known.jobs) → (left ≡ false → came ≡ true → wakes ≡ true → IsBack boundary known.woken known.jobs) →
-      Keeps boundary now all known → Keeps boundary now all (after_switch apart wakes left came state leaving known)
-  switch_keeps apart wakes true came state leaving known late by at since whole ripe back keeps =
-      let fresh : Fresh boundary now all (leaves wakes state leaving known).jobs = leaves_fresh wakes state leaving known late by at since (whole refl) keeps in
-      let gone : Keeps boundary now all (leaves wakes state leaving known) =
-      fresh_keeps boundary now all (leaves wakes state leaving known).jobs (leaves wakes state leaving known).woken fresh
-      (leaves_started wakes state leaving known keeps.started) in
-      either (Keeps boundary now all) came (comes apart wakes leaving.processor leaving.time (leaves wakes state leaving known)) (leaves wakes state leaving known)
-      (comes_keeps apart wakes leaving.processor leaving.time (leaves wakes state leaving known) late by at gone
-      (free_ripe boundary apart leaving.time (leaves wakes state leaving known).jobs fresh.free)
-      (λ woken. free_back boundary (leaves wakes state leaving known).woken (leaves wakes state leaving known).jobs fresh.free)) gone
-  switch_keeps apart wakes false came state leaving known late by at since whole ripe back keeps =
-      let gone : Keeps boundary now all (passed_by wakes leaving.processor known) = passed_keeps wakes leaving.processor known keeps in
-      cond_both came (comes apart wakes leaving.processor leaving.time (passed_by wakes leaving.processor known)) (passed_by wakes leaving.processor known)
-      (Keeps boundary now all)
-      (λ comes_now. comes_keeps apart wakes leaving.processor leaving.time (passed_by wakes leaving.processor known) late by at gone
-      (passed_ripe apart leaving.time wakes leaving.processor known keeps (ripe refl comes_now))
-      (λ woken. passed_back wakes leaving.processor known (back refl comes_now woken)))
-      (λ other. gone)
+  pub switch_keeps : (pace : Pace) (wakes left came : Bool) (state : State) (leaving : Leaving) (since : Option ℕ) (known : Known) → boundary ≤ leaving.time →
+      leaving.time ≤ now → now ≤ leaving.time → leaving.lines_since ≤ now → (left ≡ true → is_none leaving.switched ≡ true → boundary ≤ leaving.lines_since) →
+      ((s : ℕ) → since ≡ Some s → (boundary ≤ s) × (s ≤ now) × Each (λ job. IsKnownBy s job.end) boundary known.jobs) →
+      (since ≡ None → left ≡ true → known.on ≡ None → is_there wakes leaving known ≡ true) →
+      (left ≡ true → wakes ≡ true → known.on ≡ None → (at : ℕ) → known.woken.started ≡ Some at → IsBack boundary known.woken known.jobs) →
+      (left ≡ false → came ≡ true → IsRipe boundary pace.apart leaving.time known.jobs) → (left ≡ false → came ≡ true → wakes ≡ true → IsBack boundary known.woken known.jobs) →
+      (wakes ≡ false → known.woken.started ≡ None) →
+      Keeps boundary now all known → Keeps boundary now all (after_switch pace wakes left came state leaving since known)
+  switch_keeps pace wakes true came state leaving since known late by at lines whole known_by there own_back ripe back none keeps =
+      let after : Known = leaves pace wakes (is_some since) state leaving (torn_if true came leaving.processor since known) in
+      let gone : Keeps boundary now all after × IsFree boundary after.jobs = leave since known_by there in
+      either (Keeps boundary now all) came (comes pace wakes leaving.processor leaving.time after) after
+      (comes_keeps pace wakes leaving.processor leaving.time after late by at gone.0 (free_ripe boundary pace.apart leaving.time after.jobs gone.1)
+      (λ woken. free_back boundary after.woken after.jobs gone.1)) gone.0
+    where
+      leave : (since : Option ℕ) → ((s : ℕ) → since ≡ Some s → (boundary ≤ s) × (s ≤ now) × Each (λ job. IsKnownBy s job.end) boundary known.jobs) →
+          (since ≡ None → true ≡ true → known.on ≡ None → is_there wakes leaving known ≡ true) →
+          (let after : Known = leaves pace wakes (is_some since) state leaving (torn_if true came leaving.processor since known) in
+          Keeps boundary now all after × IsFree boundary after.jobs)
+      leave None known_by there =
+          leaves_keeps pace wakes false state leaving known late by at lines (whole refl)
+          (λ off woken listed other. called_back wakes leaving known (there refl refl off) woken listed other (own_back refl woken off)) none keeps
+      leave (Some s) known_by there =
+          torn_own (λ (before : Known). let after : Known = leaves pace wakes true state leaving before in Keeps boundary now all after × IsFree boundary after.jobs)
+          true came leaving.processor s known refl
+          (leaves_keeps pace wakes true state leaving (loses s known) late by at lines (whole refl) (λ off woken listed other. lost_back boundary s known) (λ at_run. refl)
+          (loses_keeps boundary now all s known (known_by s refl).1 (known_by s refl).2 keeps))
+  switch_keeps pace wakes false true state leaving since known late by at lines whole known_by there own_back ripe back none keeps = come since known_by
+    where
+      come : (since : Option ℕ) → ((s : ℕ) → since ≡ Some s → (boundary ≤ s) × (s ≤ now) × Each (λ job. IsKnownBy s job.end) boundary known.jobs) →
+          Keeps boundary now all (comes pace wakes leaving.processor leaving.time (torn_if false true leaving.processor since known))
+      come None known_by = comes_keeps pace wakes leaving.processor leaving.time known late by at keeps (ripe refl refl) (back refl refl)
+      come (Some s) known_by =
+          torn_own (λ (before : Known). Keeps boundary now all (comes pace wakes leaving.processor leaving.time before)) false true leaving.processor s known refl
+          (comes_keeps pace wakes leaving.processor leaving.time (loses s known) late by at
+          (loses_keeps boundary now all s known (known_by s refl).1 (known_by s refl).2 keeps)
+          (lost_ripe boundary pace.apart leaving.time s known.jobs (ripe refl refl)) (λ woken. lost_back boundary s known))
+  switch_keeps pace wakes false false state leaving since known late by at lines whole known_by there own_back ripe back none keeps =
+      torn_if_keeps false false leaving.processor since known known_by keeps
 
   -- # Other events
 
   -- what a wake-up does to a job that is open
-  woken_open : (apart time : ℕ) (again : Bool) (job : Job) (jobs : List Job) → job.end ≡ ends.Open → woken_jobs apart time again (job ∷ jobs) ≡ counted again job ∷ jobs
-  woken_open apart time again job jobs is = ap (λ (end : End). elim end [
+  woken_open : (pace : Pace) (time : ℕ) (again : Bool) (job : Job) (jobs : List Job) → job.end ≡ ends.Open → woken_jobs pace time again (job ∷ jobs) ≡ counted again job ∷ jobs
+  woken_open pace time again job jobs is = ap (λ (end : End). elim end [
     | ends.Open ↦ counted again job ∷ jobs
-    | ends.Ended end ↦ woken_after apart time job jobs
-    | ends.Unseen last goes_on ↦ began time true (job ∷ jobs)
+    | ends.Ended end ↦ woken_after pace time job jobs
     | ends.Lost last ↦ began time true (job ∷ jobs)
   ]) is
 
-  woken_stands : (on : Option Standing) (apart time : ℕ) (again : Bool) (jobs : List Job) → StandsBy now on jobs → StandsBy now on (woken_jobs apart time again jobs)
-  woken_stands None apart time again jobs stands = tt
-  woken_stands (Some standing) apart time again [] stands = absurd stands.1
-  woken_stands (Some standing) apart time again (job ∷ jobs) stands =
-      subst (StandsBy now (Some standing)) (sym (woken_open apart time again job jobs stands.1)) (still again)
+  woken_stands : (on : Option Standing) (pace : Pace) (time : ℕ) (again : Bool) (jobs : List Job) → StandsBy now on jobs → StandsBy now on (woken_jobs pace time again jobs)
+  woken_stands None pace time again jobs stands = tt
+  woken_stands (Some standing) pace time again [] stands = absurd stands.1
+  woken_stands (Some standing) pace time again (job ∷ jobs) stands =
+      subst (StandsBy now (Some standing)) (sym (woken_open pace time again job jobs stands.1)) (still again)
     where
       still : (b : Bool) → StandsBy now (Some standing) (counted b job ∷ jobs)
       still true = stands
       still false = stands
 
-  -- What a wake-up begins at this time.
-  wakes_from : (apart begin : ℕ) (woken : Woken) (known : Known) → boundary ≤ begin → begin ≤ now → IsRipe boundary apart begin known.jobs →
-      (let jobs : List Job = woken_jobs apart begin known.woken.came known.jobs in IsStarted now woken jobs) → Keeps boundary now all known →
-      Keeps boundary now all (record { jobs = woken_jobs apart begin known.woken.came known.jobs; on = known.on; woken = woken })
-  wakes_from apart begin woken known late by ripe started keeps =
-      let going : Going boundary now all (woken_jobs apart begin known.woken.came known.jobs) =
-      woken_going begin late by known.on apart known.woken.came known.jobs keeps.told keeps.sound keeps.last ripe in
-      record {
-        told = going.told;
-        sound = going.sound;
-        last = free_left boundary known.on (woken_jobs apart begin known.woken.came known.jobs) going.free;
-        stands = woken_stands known.on apart begin known.woken.came known.jobs keeps.stands;
-        started = started;
-      }
+  -- A wake-up that was started before is done: it begins a job, or goes on with one, behind the last job.
+  half_going : (pace : Pace) (again : Bool) (at : ℕ) (woken : Woken) (on : Option Standing) (jobs : List Job) → IsLastAwaited at woken.seen jobs → at ≤ now →
+      IsBack boundary woken jobs → told boundary jobs ≡ all → AreSound now jobs → IsLeft boundary on jobs → Going boundary now all (woken_jobs pace at again jobs)
+  half_going pace again at woken on [] awaited by back is sound last = absurd awaited
+  half_going pace again at woken on (job ∷ jobs) awaited by back is sound last =
+      by_end (Going boundary now all) job.end (counted again job ∷ jobs) (λ end. woken_after pace at job jobs) (λ since. began at true (job ∷ jobs))
+      (λ last_open. counted_going again job jobs (open_going on job jobs last_open is sound last))
+      (λ end is_ended.
+      woken_late_going pace at job jobs by (back end is_ended (subst (IsAwaited woken.seen) is_ended awaited.1)) (begun awaited.0) is sound)
+      (λ since is_lost. absurd (subst (IsAwaited woken.seen) is_lost awaited.1))
+    where
+      begun : IsBegunBy at woken.seen job → (job.begin ≤ at) ⊎ (job.begin_known ≡ true)
+      begun (inl early) = inl early
+      begun (inr known) = inr known.0
 
-  wakes_keeps : (apart : ℕ) (starts : Bool) (time : ℕ) (known : Known) → boundary ≤ time → time ≤ now → now ≤ time → IsRipe boundary apart time known.jobs →
+  -- What a wake-up begins at a time.
+  wakes_from : (pace : Pace) (begin : ℕ) (woken : Woken) (known : Known) → Going boundary now all (woken_jobs pace begin known.woken.came known.jobs) →
+      (let jobs : List Job = woken_jobs pace begin known.woken.came known.jobs in IsStarted now woken known.on jobs) → Keeps boundary now all known →
+      Keeps boundary now all (record { jobs = woken_jobs pace begin known.woken.came known.jobs; on = known.on; woken = woken })
+  wakes_from pace begin woken known going started keeps = record {
+    told = going.told;
+    sound = going.sound;
+    last = free_left boundary known.on (woken_jobs pace begin known.woken.came known.jobs) going.free;
+    stands = woken_stands known.on pace begin known.woken.came known.jobs keeps.stands;
+    started = started;
+  }
+
+  wakes_keeps : (pace : Pace) (starts : Bool) (time : ℕ) (known : Known) → boundary ≤ time → time ≤ now → now ≤ time → IsRipe boundary pace.apart time known.jobs →
       (starts ≡ false → (at : ℕ) → known.woken.started ≡ Some at → IsBack boundary known.woken known.jobs) →
-      Keeps boundary now all known → Keeps boundary now all (wakes_up apart starts time known)
-  wakes_keeps apart true time known late by at ripe back keeps =
-      wakes_from apart time (record { came = true; started = Some time; seen = known.woken.seen }) known late by ripe
-      (λ started is.
-      let same : time ≡ started = cc is in
-      subst (λ (when : ℕ). IsLastAwaited when known.woken.seen (woken_jobs apart time known.woken.came known.jobs) × (when ≤ now)) same (
-        going_started boundary now time all known.woken.seen (woken_jobs apart time known.woken.came known.jobs) at
-            (woken_going time late by known.on apart known.woken.came known.jobs keeps.told keeps.sound keeps.last ripe),
-        by,
-      )) keeps
-  wakes_keeps apart false time known late by at ripe back keeps = which known.woken.started refl
+      Keeps boundary now all known → Keeps boundary now all (wakes_up pace starts time known)
+  wakes_keeps pace true time known late by at ripe back keeps =
+      wakes_from pace time (record { came = true; started = if may_run known then Some time else None; seen = known.woken.seen; ever = true }) known going
+      (begins (may_run known)) keeps
+    where
+      going : Going boundary now all (woken_jobs pace time known.woken.came known.jobs)
+      going = woken_going time late by known.on pace known.woken.came known.jobs keeps.told keeps.sound keeps.last ripe
+
+      come : (on : Option Standing) → StandsBy now on known.jobs → HasCome time on
+      come None stands = tt
+      come (Some standing) stands = omega (arith, stands.0, stands.3, at)
+
+      begins : (b : Bool) → IsStarted now (record { came = true; started = if b then Some time else None; seen = known.woken.seen; ever = true }) known.on
+          (woken_jobs pace time known.woken.came known.jobs)
+      begins true = λ started is.
+          let same : time ≡ started = cc is in
+          subst (λ (when : ℕ). IsLastAwaited when known.woken.seen (woken_jobs pace time known.woken.came known.jobs) × (when ≤ now) × HasCome when known.on) same
+          (going_started boundary now time all known.woken.seen (woken_jobs pace time known.woken.came known.jobs) at going, by, come known.on keeps.stands)
+      begins false = none_started now known.woken.seen known.on _
+  wakes_keeps pace false time known late by at ripe back keeps = which known.woken.started refl
     where
       which : (started : Option ℕ) → known.woken.started ≡ started →
           Keeps boundary now all (record {
-            jobs = woken_jobs apart (unwrap_or started time) known.woken.came known.jobs;
+            jobs = woken_jobs pace (unwrap_or started time) known.woken.came known.jobs;
             on = known.on;
-            woken = record { came = true; started = None; seen = known.woken.seen };
+            woken = record { came = true; started = None; seen = known.woken.seen; ever = true };
           })
-      which None is = wakes_from apart time (record { came = true; started = None; seen = known.woken.seen }) known late by ripe (none_started now known.woken.seen _) keeps
+      which None is =
+          wakes_from pace time (record { came = true; started = None; seen = known.woken.seen; ever = true }) known
+          (woken_going time late by known.on pace known.woken.came known.jobs keeps.told keeps.sound keeps.last ripe) (none_started now known.woken.seen known.on _) keeps
       which (Some begin) is =
-          let free : (boundary ≤ begin) × IsRipe boundary apart begin known.jobs =
-          started_free boundary now known.woken known.on apart begin known.jobs is keeps.started keeps.last (back refl begin is) in
-          wakes_from apart begin (record { came = true; started = None; seen = known.woken.seen }) known free.0 (keeps.started begin is).1 free.1
-          (none_started now known.woken.seen _) keeps
+          wakes_from pace begin (record { came = true; started = None; seen = known.woken.seen; ever = true }) known
+          (half_going pace known.woken.came begin known.woken known.on known.jobs (keeps.started begin is).0 (keeps.started begin is).1 (back refl begin is)
+          keeps.told keeps.sound keeps.last) (none_started now known.woken.seen known.on _) keeps
 
-  pub woken_keeps : (b : Bool) (apart : ℕ) (starts : Bool) (time : ℕ) (known : Known) → boundary ≤ time → time ≤ now → now ≤ time → IsRipe boundary apart time known.jobs →
+  pub woken_keeps : (b : Bool) (pace : Pace) (starts : Bool) (time : ℕ) (known : Known) → boundary ≤ time → time ≤ now → now ≤ time → IsRipe boundary pace.apart time known.jobs →
       (b ≡ true → starts ≡ false → (at : ℕ) → known.woken.started ≡ Some at → IsBack boundary known.woken known.jobs) →
-      Keeps boundary now all known → Keeps boundary now all (if b then wakes_up apart starts time known else known)
-  woken_keeps true apart starts time known late by at ripe back keeps = wakes_keeps apart starts time known late by at ripe (back refl) keeps
-  woken_keeps false apart starts time known late by at ripe back keeps = keeps
+      Keeps boundary now all known → Keeps boundary now all (if b then wakes_up pace starts time known else known)
+  woken_keeps true pace starts time known late by at ripe back keeps = wakes_keeps pace starts time known late by at ripe (back refl) keeps
+  woken_keeps false pace starts time known late by at ripe back keeps = keeps
 
   ran_open : (stretch : Stretch) (jobs : List Job) → IsLastOpen jobs → IsLastOpen (changed_last (ran stretch) jobs)
   ran_open stretch [] last_open = last_open
@@ -769,8 +997,8 @@ module _ (boundary now : ℕ) (all : List Told) where
         told = fresh.told;
         sound = fresh.sound;
         last = free_left boundary (Some (record standing { since = time })) (changed_last (ran stretch) known.jobs) fresh.free;
-        stands = (stands.0, ran_open stretch known.jobs stands.1, last_by time (changed_last (ran stretch) known.jobs) at fresh.sound, by);
-        started = λ at is. (still at known.jobs (keeps.started at is).0, (keeps.started at is).1);
+        stands = (omega (arith, stands.0, stands.3, at), ran_open stretch known.jobs stands.1, last_by time (changed_last (ran stretch) known.jobs) at fresh.sound, by);
+        started = λ begun has. (still begun known.jobs (keeps.started begun has).0, (keeps.started begun has).1, subst (HasCome begun) is (keeps.started begun has).2);
       })
       keeps
     where
@@ -782,104 +1010,3 @@ module _ (boundary now : ℕ) (all : List Told) where
   pub speeds_keeps : (processor time : ℕ) (khz : Option ℕ) (known : Known) → time ≤ now → now ≤ time → Keeps boundary now all known → Keeps boundary now all
       (speeds processor time khz known)
   speeds_keeps processor time khz known by at keeps = speeds_on processor time khz known.on known by at refl keeps
-
--- # Losses
-
--- A job whose end is known by the time since when events were lost.
-abbrev pub IsKnownBy : ℕ → End → Type 0
-IsKnownBy since ends.Open = ⊥
-IsKnownBy since (ends.Ended end) = end ≤ since
-IsKnownBy since (ends.Unseen last goes_on) = last ≤ since
-IsKnownBy since (ends.Lost last) = last ≤ since
-
-lost_before_same : (since : ℕ) (slept : Option ℕ) (end : End) → IsKnownBy since end → lost_before since slept end ≡ end
-lost_before_same since slept ends.Open known = absurd known
-lost_before_same since slept (ends.Ended end) known = ap (λ (b : Bool). if b then ends.Lost (open_until since slept) else ends.Ended end) (le-ltb since end known)
-lost_before_same since slept (ends.Unseen last goes_on) known =
-    ap (λ (b : Bool). if b then ends.Lost (open_until since slept) else ends.Unseen last goes_on) (le-ltb since last known)
-lost_before_same since slept (ends.Lost last) known = ap ends.Lost (let e : min since last ≡ last = omega (arith, known) in e)
-
-lost_end_same : (since : ℕ) (slept : Option ℕ) (end : End) → IsDone end → IsKnownBy since end → lost_end since slept end ≡ end
-lost_end_same since slept ends.Open done known = absurd known
-lost_end_same since slept (ends.Ended end) done known = ap (λ (b : Bool). if b then ends.Lost (open_until since slept) else ends.Ended end) (le-ltb since end known)
-lost_end_same since slept (ends.Unseen last goes_on) done known = absurd done
-lost_end_same since slept (ends.Lost last) done known = ap ends.Lost (let e : min since last ≡ last = omega (arith, known) in e)
-
-with_end : (job : Job) (end : End) → end ≡ job.end → record job { end = end } ≡ job
-with_end job end is = ap (λ (e : End). record job { end = e }) is
-
-earlier_alike : (boundary since : ℕ) (jobs : List Job) → Each (λ job. IsKnownBy since job.end) boundary jobs → AreAlike boundary jobs (map (lost_earlier since) jobs)
-earlier_alike boundary since [] known = tt
-earlier_alike boundary since (job ∷ jobs) known = (
-  record { begin = refl; known = refl; same = λ early. with_end job (lost_before since job.slept job.end) (lost_before_same since job.slept job.end (known.0 early)) },
-  earlier_alike boundary since jobs known.1,
-)
-
-last_alike : (boundary since : ℕ) (on : Option Standing) (job : Job) → (job.begin < boundary → IsKnownBy since job.end) →
-    (boundary ≤ job.begin) ⊎ (IsDone job.end × IsOff on) → job.begin < boundary → lost_job since job ≡ job
-last_alike boundary since on job known (inl free) early = absurd (omega (arith, free, early))
-last_alike boundary since on job known (inr done) early = with_end job (lost_end since job.slept job.end) (lost_end_same since job.slept job.end done.0 (known early))
-
-lost_alike : (boundary since : ℕ) (on : Option Standing) (jobs : List Job) → Each (λ job. IsKnownBy since job.end) boundary jobs → IsLeft boundary on jobs →
-    AreAlike boundary jobs (lost_jobs since jobs)
-lost_alike boundary since on [] known last = tt
-lost_alike boundary since on (job ∷ jobs) known last = (
-  record { begin = refl; known = refl; same = last_alike boundary since on job known.0 last },
-  earlier_alike boundary since jobs known.1,
-)
-
--- a sound job whose end is lost, or stays
-sound_if : (now since : ℕ) (job : Job) (b : Bool) (end : End) → since ≤ now → job.end ≡ end → IsSound now job → IsSound now (record job { end = if b then ends.Lost since else end })
-sound_if now since job true end by is sound = other_end now job job.switch_missing (ends.Lost since) sound by (omega arith)
-sound_if now since job false end by is sound = subst (λ (e : End). IsSound now (record job { end = e })) is sound
-
-lost_end_sound : (now since : ℕ) (slept : Option ℕ) (job : Job) (end : End) → since ≤ now → job.end ≡ end → IsSound now job →
-    IsSound now (record job { end = lost_end since slept end })
-lost_end_sound now since slept job ends.Open by is sound = other_end now job job.switch_missing (ends.Lost (open_until since slept)) sound (omega (arith, by)) (omega arith)
-lost_end_sound now since slept job (ends.Ended end) by is sound =
-    sound_if now (open_until since slept) job (nat_lt since end) (ends.Ended end) (omega (arith, by)) is sound
-lost_end_sound now since slept job (ends.Unseen last goes_on) by is sound =
-    other_end now job job.switch_missing (ends.Lost (min (open_until since slept) last)) sound (omega (arith, by)) (omega arith)
-lost_end_sound now since slept job (ends.Lost last) by is sound = other_end now job job.switch_missing (ends.Lost (min since last)) sound (omega (arith, by)) (omega arith)
-
-lost_before_sound : (now since : ℕ) (slept : Option ℕ) (job : Job) (end : End) → since ≤ now → job.end ≡ end → IsSound now job →
-    IsSound now (record job { end = lost_before since slept end })
-lost_before_sound now since slept job ends.Open by is sound = lost_end_sound now since slept job ends.Open by is sound
-lost_before_sound now since slept job (ends.Ended end) by is sound = lost_end_sound now since slept job (ends.Ended end) by is sound
-lost_before_sound now since slept job (ends.Unseen last goes_on) by is sound =
-    sound_if now (open_until since slept) job (nat_lt since last) (ends.Unseen last goes_on) (omega (arith, by)) is sound
-lost_before_sound now since slept job (ends.Lost last) by is sound = lost_end_sound now since slept job (ends.Lost last) by is sound
-
-earlier_sound : (now since : ℕ) (jobs : List Job) → since ≤ now → AreSound now jobs → AreSound now (map (lost_earlier since) jobs)
-earlier_sound now since [] by sound = tt
-earlier_sound now since (job ∷ jobs) by sound = (lost_before_sound now since job.slept job job.end by refl sound.0, earlier_sound now since jobs by sound.1)
-
-lost_sound : (now since : ℕ) (jobs : List Job) → since ≤ now → AreSound now jobs → AreSound now (lost_jobs since jobs)
-lost_sound now since [] by sound = tt
-lost_sound now since (job ∷ jobs) by sound = (lost_end_sound now since job.slept job job.end by refl sound.0, earlier_sound now since jobs by sound.1)
-
-done_if : (since : ℕ) (b : Bool) (end : End) → IsDone end → IsDone (if b then ends.Lost since else end)
-done_if since true end done = tt
-done_if since false end done = done
-
-lost_done : (since : ℕ) (slept : Option ℕ) (end : End) → IsDone (lost_end since slept end)
-lost_done since slept ends.Open = tt
-lost_done since slept (ends.Ended end) = done_if (open_until since slept) (nat_lt since end) (ends.Ended end) tt
-lost_done since slept (ends.Unseen last goes_on) = tt
-lost_done since slept (ends.Lost last) = tt
-
-lost_left : (boundary since : ℕ) (on : Option Standing) (jobs : List Job) → IsLeft boundary on jobs → IsLeft boundary None (lost_jobs since jobs)
-lost_left boundary since on [] last = tt
-lost_left boundary since on (job ∷ jobs) (inl free) = inl free
-lost_left boundary since on (job ∷ jobs) (inr done) = inr (lost_done since job.slept job.end, tt)
-
--- A loss since a time by which all ends are known that are told.
-pub loses_keeps : (boundary now : ℕ) (all : List Told) (since : ℕ) (known : Known) → since ≤ now → Each (λ job. IsKnownBy since job.end) boundary known.jobs →
-    Keeps boundary now all known → Keeps boundary now all (loses since known)
-loses_keeps boundary now all since known by ends_known keeps = record {
-  told = alike_told boundary known.jobs (lost_jobs since known.jobs) (lost_alike boundary since known.on known.jobs ends_known keeps.last) ∙ keeps.told;
-  sound = lost_sound now since known.jobs by keeps.sound;
-  last = lost_left boundary since known.on known.jobs keeps.last;
-  stands = tt;
-  started = none_started now false _;
-}

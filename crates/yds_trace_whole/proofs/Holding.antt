@@ -13,7 +13,7 @@ use Rattle.yds_trace.specs.declared.job.End.{End}
 use Rattle.yds_trace.specs.declared.job.End.TheVariants as ends
 use Rattle.yds_trace.specs.declared.job.Standing.{Standing}
 use Rattle.yds_trace.specs.Asked.{Asked, task_at, task_of, is_number, is_of, is_before_to, is_within_to}
-use Rattle.yds_trace.specs.Past.{last_time, lost_since, is_loss, is_switch, whole_since, has_switched, counts, is_first_switch, stayed, up_to_time, up_to, speed_after}
+use Rattle.yds_trace.specs.Past.{last_time, lost_since, is_loss, is_switch, lines_since, has_switched, counts, is_first_switch, stayed, up_to_time, up_to, speed_after}
 use Rattle.yds_trace.specs.Jobs.{Job, Known, leaving_at, after_event, known_after}
 use Rattle.yds_trace.specs.Late.{last_asked}
 use Rattle.yds_trace.specs.Parts.{reaches_back, was_there_before, has_ended, last_begin, sleeps_before, woken_before, wakes_at, is_known_so, came_back, changes_parts, part_fault}
@@ -22,7 +22,7 @@ use Rattle.yds_trace_laws.proofs.Runs.{all_weaker}
 use Rattle.yds_trace_laws.proofs.Sharing.{AreBy, GoesOn, up_to_by, counts_by, later_switch}
 use Rattle.yds_trace_whole.proofs.Told.{Told, told, OfTold, Each, each_told, told_each}
 use Rattle.yds_trace_whole.proofs.Going.{later_sound, StandsBy, IsRipeEnd, IsRipe, IsBack, Keeps, switch_keeps, woken_keeps, speeds_keeps, IsKnownBy, loses_keeps}
-use Rattle.yds_trace_whole.proofs.Lines.{until, beyond, until_goes_on, beyond_goes_on, beyond_reached, until_before, until_most, lost_by, lost_same, whole_by, counting_by, whole_from}
+use Rattle.yds_trace_whole.proofs.Lines.{until, beyond, until_goes_on, beyond_goes_on, beyond_reached, until_before, until_most, lost_by, lost_same, lines_by, counting_by, lines_from}
 
 -- # What holds
 
@@ -30,7 +30,6 @@ use Rattle.yds_trace_whole.proofs.Lines.{until, beyond, until_goes_on, beyond_go
 abbrev pub IsFirmEnd : ℕ → ℕ → ℕ → ℕ → End → Type 0
 IsFirmEnd now decided last ripe ends.Open = ⊥
 IsFirmEnd now decided last ripe (ends.Ended end) = (end ≤ decided) × (ripe ≤ last)
-IsFirmEnd now decided last ripe (ends.Unseen since goes_on) = since ≤ decided
 IsFirmEnd now decided last ripe (ends.Lost since) = (since ≤ decided) × (since < now)
 
 -- from when on no wake-up goes on with the job
@@ -80,7 +79,6 @@ now_goes_on asked said past goes =
 firm_end : (now later decided last next ripe : ℕ) (end : End) → now ≤ later → (ripe ≤ last → ripe ≤ next) → IsFirmEnd now decided last ripe end → IsFirmEnd later decided next ripe end
 firm_end now later decided last next ripe ends.Open on goes firm = firm
 firm_end now later decided last next ripe (ends.Ended end) on goes firm = (firm.0, goes firm.1)
-firm_end now later decided last next ripe (ends.Unseen since goes_on) on goes firm = firm
 firm_end now later decided last next ripe (ends.Lost since) on goes firm = (firm.0, omega (arith, firm.1, on))
 
 -- What is firm stays firm.
@@ -136,11 +134,11 @@ event_kept asked past cut event none =
 -- A listed thread that leaves a processor, which hasn't switched, had no job before the parts' end.
 there_since : (asked : Asked) (past : List Said) (cut : Cut) (event : Event) (previous : Thread) (state : State) (next : Thread) (number : ℕ) →
     was_there_before asked past cut event (Switch previous state next) ≡ false → is_of asked number previous ≡ true →
-    has_switched event.processor (up_to asked.to past) ≡ false → cut.boundary ≤ whole_since event.time (up_to asked.to past)
+    has_switched event.processor (up_to asked.to past) ≡ false → cut.boundary ≤ lines_since event.processor event.time (up_to asked.to past)
 there_since asked past cut event previous state next number none mine first =
-    ltb-false (whole_since event.time (up_to asked.to past)) cut.boundary
-    (subst (λ (b : Bool). (b && nat_lt (whole_since event.time (up_to asked.to past)) cut.boundary) ≡ false) (ap not first)
-    (subst (λ (b : Bool). (b && not (has_switched event.processor (up_to asked.to past)) && nat_lt (whole_since event.time (up_to asked.to past)) cut.boundary) ≡ false)
+    ltb-false (lines_since event.processor event.time (up_to asked.to past)) cut.boundary
+    (subst (λ (b : Bool). (b && nat_lt (lines_since event.processor event.time (up_to asked.to past)) cut.boundary) ≡ false) (ap not first)
+    (subst (λ (b : Bool). (b && not (has_switched event.processor (up_to asked.to past)) && nat_lt (lines_since event.processor event.time (up_to asked.to past)) cut.boundary) ≡ false)
     (listed asked number previous mine) none))
 
 -- What isn't so of the task that a thread is.
@@ -165,7 +163,6 @@ not_before boundary known none = by known.jobs none
         let over : has_ended (job ∷ jobs) ≡ true = ap (λ (e : End). elim e as (λ _. Bool) [
           | ends.Open ↦ false
           | ends.Ended end ↦ true
-          | ends.Unseen last goes_on ↦ false
           | ends.Lost last ↦ false
         ]) is in
         ltb-false job.begin boundary
@@ -201,10 +198,10 @@ record IsNext (asked : Asked) (counting : List Said) (boundary now number : ℕ)
   late : is_loss happening ≡ false → boundary ≤ event.time
   by : is_loss happening ≡ false → event.time ≤ now
   at : is_loss happening ≡ false → now ≤ event.time
-  whole : is_loss happening ≡ false → whole_since event.time counting ≤ now
+  whole : is_loss happening ≡ false → lines_since event.processor event.time counting ≤ now
   ripe : is_loss happening ≡ false → IsRipe boundary (task_at asked number).apart event.time (known_after asked number counting).jobs
   left : (previous : Thread) (state : State) (next : Thread) → happening ≡ Switch previous state next → is_of asked number previous ≡ true →
-      has_switched event.processor counting ≡ false → boundary ≤ whole_since event.time counting
+      has_switched event.processor counting ≡ false → boundary ≤ lines_since event.processor event.time counting
   back : (previous : Thread) (state : State) (next : Thread) → happening ≡ Switch previous state next → not asked.begin_at_run ≡ true → is_of asked number next ≡ true →
       IsBack boundary (known_after asked number counting).woken (known_after asked number counting).jobs
   half : (thread : Thread) (at : ℕ) → happening ≡ WakeUp thread false → not asked.begin_at_run ≡ true → is_of asked number thread ≡ true →
@@ -236,7 +233,7 @@ abbrev pub staying : ℕ → ℕ → Thread → Event
 staying processor to thread = record { processor = processor; time = to; happening = Switch thread states.GoesOn thread }
 
 staying_keeps : (asked : Asked) (counting : List Said) (boundary now number : ℕ) (all : List Told) (processor to : ℕ) (thread : Thread) → boundary ≤ to → to ≤ now →
-    now ≤ to → whole_since to counting ≤ now → (is_of asked number thread ≡ true → boundary ≤ whole_since to counting) → Keeps boundary now all (known_after asked number counting) →
+    now ≤ to → lines_since processor to counting ≤ now → (is_of asked number thread ≡ true → boundary ≤ lines_since processor to counting) → Keeps boundary now all (known_after asked number counting) →
     Keeps boundary now all (known_after asked number (Stamped (staying processor to thread) ∷ counting))
 staying_keeps asked counting boundary now number all processor to thread late by at whole left keeps =
     switch_keeps boundary now all (task_at asked number).apart (not asked.begin_at_run) (is_of asked number thread) (is_of asked number thread) states.GoesOn
@@ -297,7 +294,6 @@ keeps_later boundary now later all known on keeps =
 known_end : (now decided last ripe since : ℕ) (end : End) → decided ≤ since → IsFirmEnd now decided last ripe end → IsKnownBy since end
 known_end now decided last ripe since ends.Open back firm = firm
 known_end now decided last ripe since (ends.Ended end) back firm = omega (arith, back, firm.0)
-known_end now decided last ripe since (ends.Unseen last_seen goes_on) back firm = omega (arith, back, firm)
 known_end now decided last ripe since (ends.Lost last_seen) back firm = omega (arith, back, firm.0)
 
 -- A loss since a time from when on the parts were decided: all ends are known.
@@ -316,7 +312,6 @@ last_ripe asked past cut number time on before holds = by (counted asked past nu
     ended : (until_then : ℕ) (end : End) → IsFirmEnd (last_asked asked past) cut.decided (last_time past) (beyond asked.to until_then) end → IsRipeEnd until_then time end
     ended until_then ends.Open firm = tt
     ended until_then (ends.Ended end) firm = beyond_reached asked.to until_then time before (omega (arith, on, firm.1))
-    ended until_then (ends.Unseen since goes_on) firm = tt
     ended until_then (ends.Lost since) firm = tt
 
     by : (jobs : List Job) → Each (IsFirm asked past cut.decided number) cut.boundary jobs → IsRipe cut.boundary (task_at asked number).apart time jobs
@@ -351,7 +346,7 @@ module _ (asked : Asked) (past : List Said) (cut : Cut) (number : ℕ) (begun : 
             omega (
               arith,
               here other,
-              whole_by event.time event.time (up_to asked.to past) (omega arith)
+              lines_by event.time event.processor event.time (up_to asked.to past) (omega arith)
                   (counting_by asked.to past event.time goes.1 (goes.0 (before other)) (before other)),
             );
         ripe = λ other. last_ripe asked past cut number event.time (goes.0 (before other)) (before other) holds;
@@ -392,8 +387,8 @@ module _ (asked : Asked) (past : List Said) (cut : Cut) (number : ℕ) (begun : 
       let now : later ≡ end = now_is asked (Stamped event ∷ past) ∙ reached in
       let lines : AreBy end (up_to asked.to past) = subst (λ (to : Option ℕ). AreBy end (up_to to past)) (sym is) (up_to_by end past) in
       staying_keeps asked (up_to asked.to past) cut.boundary later number (told_of asked past cut number) event.processor end previous within (omega (arith, now)) (omega (arith, now))
-      (omega (arith, now, whole_by end end (up_to asked.to past) (omega arith) lines))
-      (λ mine. whole_from cut.boundary end event.time (up_to asked.to past) within
+      (omega (arith, now, lines_by end event.processor end (up_to asked.to past) (omega arith) lines))
+      (λ mine. lines_from cut.boundary event.processor end event.time (up_to asked.to past) within
       (there_since asked past cut event previous state next number (subst (λ (h : Happening). was_there_before asked past cut event h ≡ false) switches kept.there) mine first))
       same)
       same

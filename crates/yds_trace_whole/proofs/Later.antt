@@ -126,7 +126,6 @@ module _ (units whole : Units) (shift low : ℕ) (later : AreLater units whole s
           ap₂ (λ (b c : Bool). b && c)
           (ap₂ (λ (m n : ℕ). nat_lt m n) (later.times one.due timed.due) (later.times end (timed.end end is))
           ∙ lt_later (written_time units one.due) (written_time units end) shift) runs_late
-      by (ends.Unseen since goes_on) is = refl
       by (ends.Lost since) is = refl
 
   standing_later : stands one ≡ true → with_runs whole one ≡ job_later shift one (with_runs units one)

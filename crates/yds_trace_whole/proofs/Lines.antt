@@ -4,7 +4,7 @@ use Rattle.yds_kernel.specs.declared.loss.Since.{Since}
 use Rattle.yds_kernel.specs.declared.loss.Since.TheVariants as since
 use Rattle.yds_kernel.specs.Event.{Happening, Switch, WakeUp, Speed, Loss, Marker, Other, Event, Said, Stamped, Lost, Nothing}
 use Rattle.yds_trace.specs.Asked.{is_before_to, is_within_to}
-use Rattle.yds_trace.specs.Past.{first_time, last_time, last_time_on, lost_since, is_loss, whole_since, counts, is_first_switch, stayed, up_to_time, up_to}
+use Rattle.yds_trace.specs.Past.{first_time, last_time, last_time_on, lost_since, is_loss, lines_since, counts, is_first_switch, stayed, up_to_time, up_to}
 use Rattle.yds_trace_laws.proofs.Sharing.{AreBy, GoesOn, all_by, counted_by}
 
 -- # Up to when it is asked
@@ -306,18 +306,25 @@ pub lost_same : (to : Option ℕ) (processor : ℕ) (reach : Since) (past : List
 lost_same None processor reach past goes within = refl
 lost_same (Some to) processor reach past goes within = lost_since_same to processor reach past goes (ltb-true (lost_since processor reach past) to within)
 
--- # Since when nothing was lost
+-- # Since when a processor's lines are whole
 
-pub whole_by : (time here : ℕ) (past : List Said) → here ≤ time → AreBy time past → whole_since here past ≤ time
-whole_by time here [] within by = within
-whole_by time here (Stamped event ∷ past) within by = which (is_loss event.happening) refl (λ other. whole_by time event.time past (by.0 other) by.1)
+pub lines_by : (time processor here : ℕ) (past : List Said) → here ≤ time → AreBy time past → lines_since processor here past ≤ time
+lines_by time processor here [] within by = within
+lines_by time processor here (Stamped event ∷ past) within by =
+    which (is_loss event.happening) refl
+    (λ other. lines_by time processor (if event.processor == processor then event.time else here) past (either (event.processor == processor) (by.0 other)) by.1)
   where
-    which : (b : Bool) → is_loss event.happening ≡ b → (is_loss event.happening ≡ false → whole_since event.time past ≤ time) →
-        (if b then here else whole_since event.time past) ≤ time
+    either : (b : Bool) → event.time ≤ time → (if b then event.time else here) ≤ time
+    either true now = now
+    either false now = within
+
+    which : (b : Bool) → is_loss event.happening ≡ b →
+        (is_loss event.happening ≡ false → lines_since processor (if event.processor == processor then event.time else here) past ≤ time) →
+        (if b then here else lines_since processor (if event.processor == processor then event.time else here) past) ≤ time
     which true loss rest = within
     which false other rest = rest other
-whole_by time here (Lost processor reach ∷ past) within by = within
-whole_by time here (Nothing ∷ past) within by = whole_by time here past within by
+lines_by time processor here (Lost other reach ∷ past) within by = within
+lines_by time processor here (Nothing ∷ past) within by = lines_by time processor here past within by
 
 -- Behind a line that isn't after `to` all that count are by its time.
 pub counting_by : (to : Option ℕ) (past : List Said) (time : ℕ) → GoesOn to past → last_time past ≤ time → is_before_to to time ≡ true → AreBy time (up_to to past)
@@ -325,12 +332,22 @@ counting_by None past time goes last before = all_by past time goes last
 counting_by (Some to) past time goes last before = counted_by to time past goes (leb-true time to before) last
 
 -- It isn't earlier from an earlier time on, unless that is earlier still.
-pub whole_from : (boundary here later : ℕ) (past : List Said) → boundary ≤ here → boundary ≤ whole_since later past → boundary ≤ whole_since here past
-whole_from boundary here later [] low from = low
-whole_from boundary here later (Stamped event ∷ past) low from = which (is_loss event.happening) from
+pub lines_from : (boundary processor here later : ℕ) (past : List Said) → boundary ≤ here → boundary ≤ lines_since processor later past →
+    boundary ≤ lines_since processor here past
+lines_from boundary processor here later [] low from = low
+lines_from boundary processor here later (Stamped event ∷ past) low from =
+    which (is_loss event.happening) from (λ rest. same (event.processor == processor) (λ other. lines_from boundary processor here later past low other) rest)
   where
-    which : (b : Bool) → boundary ≤ (if b then later else whole_since event.time past) → boundary ≤ (if b then here else whole_since event.time past)
-    which true from = low
-    which false from = from
-whole_from boundary here later (Lost processor reach ∷ past) low from = low
-whole_from boundary here later (Nothing ∷ past) low from = whole_from boundary here later past low from
+    same : (b : Bool) → (boundary ≤ lines_since processor later past → boundary ≤ lines_since processor here past) →
+        boundary ≤ lines_since processor (if b then event.time else later) past → boundary ≤ lines_since processor (if b then event.time else here) past
+    same true passes from = from
+    same false passes from = passes from
+
+    which : (b : Bool) → boundary ≤ (if b then later else lines_since processor (if event.processor == processor then event.time else later) past) →
+        (boundary ≤ lines_since processor (if event.processor == processor then event.time else later) past →
+        boundary ≤ lines_since processor (if event.processor == processor then event.time else here) past) →
+        boundary ≤ (if b then here else lines_since processor (if event.processor == processor then event.time else here) past)
+    which true from passes = low
+    which false from passes = passes from
+lines_from boundary processor here later (Lost other reach ∷ past) low from = low
+lines_from boundary processor here later (Nothing ∷ past) low from = lines_from boundary processor here later past low from

@@ -288,7 +288,7 @@ among_is asked past cut time holds is = by (last_where (is_closed asked past job
 
 pub place_is : (asked : Asked) (past : List Said) (cut : Cut) (time : ℕ) → ((number : ℕ) → number < length asked.tasks → Holds asked past cut number) →
     place_of asked past cut ≡ Some time → IsPlace asked past cut time
-place_is asked past cut time holds is = by (is_due past && may_write asked past && is_much (waiting asked past cut) (others_from asked past cut.boundary)) is
+place_is asked past cut time holds is = by (is_due past && is_much (waiting asked past cut) (others_from asked past cut.boundary)) is
   where
     by : (b : Bool) → (if b then place_among asked past (waiting asked past cut) else None) ≡ Some time → IsPlace asked past cut time
     by true is = among_is asked past cut time holds is

@@ -52,63 +52,57 @@ late_at_same from last next deadline shown unended here there = by (nat_lt deadl
         (judged_same from last next deadline shown (omega (arith, due_by deadline shown unended is, here)) (omega (arith, due_by deadline shown unended is, there)))
     by false is = ap (λ (b : Bool). some_if b (shown - deadline)) (and-false (is_judged from last deadline shown) ∙ sym (and-false (is_judged from next deadline shown)))
 
-late_same : (from : Option ℕ) (last next deadline decided line ripe : ℕ) (absent : Bool) (end : End) → last ≤ next → IsSoundEnd last absent end → IsFirmEnd last decided line ripe end →
+late_same : (from : Option ℕ) (last next deadline decided line ripe : ℕ) (end : End) → last ≤ next → IsSoundEnd last end → IsFirmEnd last decided line ripe end →
     late_by from next deadline end ≡ late_by from last deadline end
-late_same from last next deadline decided line ripe absent ends.Open on sound firm = absurd firm
-late_same from last next deadline decided line ripe absent (ends.Ended end) on sound firm = late_at_same from next last deadline end false (omega (arith, on, sound)) sound
-late_same from last next deadline decided line ripe absent (ends.Unseen since goes_on) on sound firm =
-    ap (λ (shown : ℕ). late_at from next deadline shown true) (let e : min next since ≡ since = omega (arith, on, sound.0) in e)
-    ∙ late_at_same from next last deadline since true (omega (arith, on, sound.0)) sound.0
-    ∙ ap (λ (shown : ℕ). late_at from last deadline shown true) (let e : since ≡ min last since = omega (arith, sound.0) in e)
-late_same from last next deadline decided line ripe absent (ends.Lost since) on sound firm =
+late_same from last next deadline decided line ripe ends.Open on sound firm = absurd firm
+late_same from last next deadline decided line ripe (ends.Ended end) on sound firm = late_at_same from next last deadline end false (omega (arith, on, sound)) sound
+late_same from last next deadline decided line ripe (ends.Lost since) on sound firm =
     ap (λ (shown : ℕ). late_at from next deadline shown true) (let e : min next since ≡ since = omega (arith, on, sound) in e)
     ∙ late_at_same from next last deadline since true (omega (arith, on, sound)) sound
     ∙ ap (λ (shown : ℕ). late_at from last deadline shown true) (let e : since ≡ min last since = omega (arith, sound) in e)
 
 -- # Reasons
 
-abbrev reason_with : Asked → List Said → Task → Job → Bool → End → Option Reason
-reason_with asked past task job absent end =
+abbrev reason_with : Asked → List Said → Task → Job → End → Option Reason
+reason_with asked past task job end =
     if not (is_after_from asked.from job.begin) then Some reasons.BeforeFrom
     else (if is_lost (last_asked asked past) end then Some reasons.EventsLost
-    else (if absent then Some reasons.SwitchMissing
+    else (if job.switch_missing then Some reasons.SwitchMissing
     else (if is_open end && is_none (late_by asked.from (last_asked asked past) (due task job) end)
     then Some (if reaches_to asked past then reasons.AfterTo else reasons.NotEnded)
     else (if not job.begin_known then Some reasons.BeginUnseen
+    else (if nat_lt (due task job) (job.begin + asked.unit) then Some reasons.DueBefore
     else (if list_any (is_elsewhere asked.processor) job.stretches then Some reasons.Moved
-    else (if list_any is_of_unknown_speed job.stretches then Some reasons.SpeedUnknown else None))))))
+    else (if list_any is_of_unknown_speed job.stretches then Some reasons.SpeedUnknown else None)))))))
 
-reason_same : (asked : Asked) (past next : List Said) (task : Task) (job : Job) (decided line ripe : ℕ) (absent : Bool) (end : End) → last_asked asked past ≤ last_asked asked next →
-    IsSoundEnd (last_asked asked past) absent end → IsFirmEnd (last_asked asked past) decided line ripe end →
-    reason_with asked next task job absent end ≡ reason_with asked past task job absent end
-reason_same asked past next task job decided line ripe absent ends.Open on sound firm = absurd firm
-reason_same asked past next task job decided line ripe absent (ends.Ended end) on sound firm = refl
-reason_same asked past next task job decided line ripe absent (ends.Unseen since goes_on) on sound firm =
-    ap (λ (b : Bool). reason_with asked next task job b (ends.Unseen since goes_on)) sound.1
-    ∙ sym (ap (λ (b : Bool). reason_with asked past task job b (ends.Unseen since goes_on)) sound.1)
-reason_same asked past next task job decided line ripe absent (ends.Lost since) on sound firm =
+reason_same : (asked : Asked) (past next : List Said) (task : Task) (job : Job) (decided line ripe : ℕ) (end : End) → last_asked asked past ≤ last_asked asked next →
+    IsSoundEnd (last_asked asked past) end → IsFirmEnd (last_asked asked past) decided line ripe end →
+    reason_with asked next task job end ≡ reason_with asked past task job end
+reason_same asked past next task job decided line ripe ends.Open on sound firm = absurd firm
+reason_same asked past next task job decided line ripe (ends.Ended end) on sound firm = refl
+reason_same asked past next task job decided line ripe (ends.Lost since) on sound firm =
     lost next (lt-ltb since (last_asked asked next) (omega (arith, firm.1, on))) ∙ sym (lost past (lt-ltb since (last_asked asked past) firm.1))
   where
     lost : (lines : List Said) → nat_lt since (last_asked asked lines) ≡ true →
-        reason_with asked lines task job absent (ends.Lost since) ≡ (if not (is_after_from asked.from job.begin) then Some reasons.BeforeFrom else Some reasons.EventsLost)
+        reason_with asked lines task job (ends.Lost since) ≡ (if not (is_after_from asked.from job.begin) then Some reasons.BeforeFrom else Some reasons.EventsLost)
     lost lines is = rw is refl
 
 -- # A job
 
 -- of a job, and of what it ran on the processor
 job_same : (asked : Asked) (past next : List Said) (number decided place : ℕ) (before : Bool) (job : Job) → last_asked asked past ≤ last_asked asked next →
-    IsSoundEnd (last_asked asked past) job.switch_missing job.end → IsFirm asked past decided number job →
+    IsSoundEnd (last_asked asked past) job.end → IsFirm asked past decided number job →
     judged asked next number before (with_number place job) ≡ judged asked past number before (with_number place job)
 job_same asked past next number decided place before job on sound firm =
     let was : Judged = judged asked past number before (with_number place job) in
     ap₂ (λ (late : Option ℕ) (reason : Option Reason). record was { late = late; reason = reason })
-    (late_same asked.from (last_asked asked past) (last_asked asked next) (due (task_at asked number) job) decided (last_time past) (ripe_from asked number job) job.switch_missing job.end on sound firm)
-    (reason_same asked past next (task_at asked number) job decided (last_time past) (ripe_from asked number job) job.switch_missing job.end on sound firm)
+    (late_same asked.from (last_asked asked past) (last_asked asked next) (due (task_at asked number) job) decided (last_time past) (ripe_from asked number job) job.end on sound firm)
+    (reason_same asked past next (task_at asked number) job decided (last_time past) (ripe_from asked number job) job.end on sound firm)
 
 judge_same : (asked : Asked) (past next : List Said) (number decided : ℕ) (one : Told) → last_asked asked past ≤ last_asked asked next →
     OfTold (λ job. IsSound (last_asked asked past) job × IsFirm asked past decided number job) one → judge asked next number one ≡ judge asked past number one
 judge_same asked past next number decided one on is =
-    let P : Job → Type 0 = λ job. IsSoundEnd (last_asked asked past) job.switch_missing job.end × IsFirm asked past decided number job in
+    let P : Job → Type 0 = λ job. IsSoundEnd (last_asked asked past) job.end × IsFirm asked past decided number job in
     let kept : P (share_of asked one.numbered.1) = share_kept P (λ processor job so. so) asked one.numbered.1 (is.0.1, is.1) in
     job_same asked past next number decided one.numbered.0 one.before (share_of asked one.numbered.1) on kept.0 kept.1
 

@@ -247,7 +247,6 @@ part_runs_from whole asked now boundary judged positive all =
 ended_so : (now time : ℕ) (end : End) → ended_by time end ≡ true → latest now end ≤ time
 ended_so now time ends.Open is = cc is
 ended_so now time (ends.Ended end) is = leb-true end time is
-ended_so now time (ends.Unseen since goes_on) is = cc is
 ended_so now time (ends.Lost since) is = cc is
 
 part_runs_by : (whole : Units) (asked : Asked) (now time : ℕ) (judged : List Judged) → 1 ≤ whole.time →

@@ -18,7 +18,7 @@ line_of processor time happening = Stamped (record { processor = processor; time
 
 -- each of its jobs is due so long after its begin
 abbrev pub task_due : ℕ → List ℕ → Task
-task_due deadline name = record { label = name; thread = Named name; deadline = deadline; apart = 0 }
+task_due deadline name = record { label = name; thread = Named name; deadline = deadline; apart = 0; period = 0 }
 
 -- these tasks, on processor 0
 abbrev pub asked_of : List Task → Asked

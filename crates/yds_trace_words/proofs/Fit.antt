@@ -10,6 +10,7 @@ use Rattle.base.specs.declared.number_fault.NumberFault.TheVariants.{BadNumber, 
 use Rattle.yds_kernel.specs.Parts.{◌>>=◌ as ◌>>?◌}
 use Rattle.yds_kernel.specs.declared.limits.TheConstants.{MAX_NUMBER}
 use Rattle.yds_trace.specs.declared.limits.TheConstants.{MAX_TIME, MAX_DEADLINE}
+use Rattle.yds_trace.specs.declared.job.Pace.{Pace}
 use Rattle.yds_trace.specs.Asked.{Task, Start, Asked, Numbered, Named}
 use Rattle.yds_trace_bounds.specs.declared.bounds.Moment.{Moment}
 use Rattle.yds_trace_bounds.specs.declared.bounds.Moment.TheVariants.{Clock, AfterFirst}
@@ -24,9 +25,8 @@ use Rattle.yds_trace_words.specs.declared.letter.Sign.TheVariants as signs
 use Rattle.yds_trace_words.specs.Words.{WordFault, refuse, ◌>>=◌, before, and_behind, Setting, settings_of, value_of, is_given, other_than, given_twice}
 use Rattle.yds_trace_words.specs.Decimal.{decimal_at, at_most, fraction_at, behind_point, is_point}
 use Rattle.yds_trace_words.specs.Letters.{letters_of, is_at, text_of}
-use Rattle.yds_trace_words.specs.Tasks.{known, is_label, refuse_task, label_at, Called, pid_at, numbered_at, named_at, called_at, milliseconds_at, deadline_at, Times, apart_at, alone_at, times_at, task_of_parts, task_at, tasks_from, tasks_of, tasks_asked, is_same_label, is_same_thread, again_in, different_from, unless}
-use Rattle.yds_trace_words.specs.Start.{start_asked}
-use Rattle.yds_trace_words.specs.Request.{Request, ShowHelp, ShowVersion, ReadTrace, ListThreads, whole_or_refused, whole_or, moment_of, time_or_refused, time_of, ordered, bounds_by, only, processor_of, others_asked, trace_by, threads_alone, threads_or_trace, is_question, asked_once, request_by, request_of, IsFitRequest}
+use Rattle.yds_trace_words.specs.Tasks.{known, is_label, refuse_task, label_at, Called, pid_at, numbered_at, named_at, called_at, milliseconds_at, deadline_at, Times, pace_at, paced_at, alone_at, times_at, task_of_parts, task_at, tasks_from, tasks_of, tasks_asked, is_same_label, is_same_thread, again_in, different_from, unless}
+use Rattle.yds_trace_words.specs.Request.{Request, ShowHelp, ShowVersion, ReadTrace, ListThreads, whole_or_refused, whole_or, moment_of, time_or_refused, time_of, ordered, bounds_by, only, processor_of, others_asked, speeds_asked, trace_by, threads_alone, threads_or_trace, is_question, asked_once, request_by, request_of, IsFitRequest}
 
 -- # Steps
 
@@ -118,26 +118,26 @@ deadline_fits unit place letters deadline is =
     let most : time.value ≤ MAX_DEADLINE = known_most place reasons.Deadline 6 MAX_DEADLINE (text_of letters) time.value time.was in
     (omega (arith, given.1, leb-true unit time.value given.0), omega (arith, given.1, most))
 
-apart_by : (deadline apart : Result ℕ WordFault) (times : Times) → (deadline >>= (λ d. apart >>= (λ a. Ok (record { deadline = d; apart = a })))) ≡ Ok times → deadline ≡ Ok times.deadline
-apart_by (Err fault) apart times is = absurd cc
-apart_by (Ok d) (Err fault) times is = absurd cc
-apart_by (Ok d) (Ok a) times is = cc
+paced_by : (deadline : Result ℕ WordFault) (pace : Result Pace WordFault) (times : Times) → (deadline >>= (λ d. pace >>= (λ p. Ok (record { deadline = d; pace = p })))) ≡ Ok times → deadline ≡ Ok times.deadline
+paced_by (Err fault) pace times is = absurd cc
+paced_by (Ok d) (Err fault) times is = absurd cc
+paced_by (Ok d) (Ok p) times is = cc
 
-alone_by : (deadline : Result ℕ WordFault) (times : Times) → (deadline >>= (λ d. Ok (record { deadline = d; apart = 0 }))) ≡ Ok times → deadline ≡ Ok times.deadline
+alone_by : (deadline : Result ℕ WordFault) (times : Times) → (deadline >>= (λ d. Ok (record { deadline = d; pace = record { apart = 0; period = 0 } }))) ≡ Ok times → deadline ≡ Ok times.deadline
 alone_by (Err fault) times is = absurd cc
 alone_by (Ok d) times is = cc
 
-apart_fits : (unit place : ℕ) (first second : List Letter) (times : Times) → apart_at unit place first second ≡ Ok times → (unit ≤ times.deadline) × (times.deadline ≤ MAX_DEADLINE)
-apart_fits unit place first second times is =
-    deadline_fits unit place first times.deadline (apart_by (deadline_at unit place first) (milliseconds_at place reasons.Apart second) times is)
+paced_fits : (unit place : ℕ) (first second : List Letter) (times : Times) → paced_at unit place first second ≡ Ok times → (unit ≤ times.deadline) × (times.deadline ≤ MAX_DEADLINE)
+paced_fits unit place first second times is =
+    deadline_fits unit place first times.deadline (paced_by (deadline_at unit place first) (pace_at place second) times is)
 
 alone_fits : (unit place : ℕ) (letters : List Letter) (times : Times) → alone_at unit place letters ≡ Ok times → (unit ≤ times.deadline) × (times.deadline ≤ MAX_DEADLINE)
 alone_fits unit place letters times is = deadline_fits unit place letters times.deadline (alone_by (deadline_at unit place letters) times is)
 
 times_fit : (unit place : ℕ) (letters : List Letter) (times : Times) → times_at unit place letters ≡ Ok times → (unit ≤ times.deadline) × (times.deadline ≤ MAX_DEADLINE)
 times_fit unit place letters times is = elim (either (list_any (is_at signs.Colon) letters)
-    (apart_at unit place (before_first (is_at signs.Colon) letters) (after_first (is_at signs.Colon) letters)) (alone_at unit place letters) times is) [
-      | inl both ↦ apart_fits unit place (before_first (is_at signs.Colon) letters) (after_first (is_at signs.Colon) letters) times both
+    (paced_at unit place (before_first (is_at signs.Colon) letters) (after_first (is_at signs.Colon) letters)) (alone_at unit place letters) times is) [
+      | inl both ↦ paced_fits unit place (before_first (is_at signs.Colon) letters) (after_first (is_at signs.Colon) letters) times both
       | inr one ↦ alone_fits unit place letters times one
     ]
 
@@ -150,7 +150,7 @@ record TaskParts (called : Result Called WordFault) (times : Result Times WordFa
   pub deadline_is : window.deadline ≡ task.deadline
 
 task_by : (called : Result Called WordFault) (times : Result Times WordFault) (task : Task)
-    → (called >>= (λ c. times >>= (λ t. Ok (record { label = c.label; thread = c.thread; deadline = t.deadline; apart = t.apart })))) ≡ Ok task → TaskParts called times task
+    → (called >>= (λ c. times >>= (λ t. Ok (record { label = c.label; thread = c.thread; deadline = t.deadline; apart = t.pace.apart; period = t.pace.period })))) ≡ Ok task → TaskParts called times task
 task_by (Err fault) times task is = absurd cc
 task_by (Ok c) (Err fault) task is = absurd cc
 task_by (Ok c) (Ok t) task is = record { name = c; window = t; name_is = refl; window_is = refl; label_is = cc; deadline_is = cc }
@@ -424,7 +424,7 @@ trace_fits : (given : List Setting) (asked : Asked) (bounds : Bounds) (strict : 
 trace_fits given asked bounds strict is first =
     let value = λ (name : List ℕ). value_of name given in
     let parts = all_parts (processor_of (value (codes "--cpu"))) (whole_or 10 1 MAX_UNIT (codes "--us") reasons.Unit (value (codes "--us")))
-    (whole_or 10000 1 MAX_NUMBER (codes "--khz") reasons.Speed (value (codes "--khz"))) (start_asked (value (codes "--start"))) (bounds_by given)
+    (whole_or 10000 1 MAX_NUMBER (codes "--khz") reasons.Speed (value (codes "--khz"))) (speeds_asked (value (codes "--start")) (value (codes "--fixed"))) (bounds_by given)
     (only (codes "--begin") (codes "run") reasons.Begin (value (codes "--begin")))
     (only (codes "--lost") (codes "cut") reasons.Lost (value (codes "--lost"))) (only (codes "--moved") (codes "parts") reasons.Moved (value (codes "--moved")))
     (λ (cpu : Option ℕ). others_asked cpu (value (codes "--others"))) (is_given (codes "--parts") given) (λ (unit : ℕ). tasks_asked unit (value (codes "--tasks")))

@@ -1,5 +1,7 @@
 pub mod Ahead
 pub mod StartExamples
+pub mod FixedExamples
+pub mod TasksExamples
 pub mod FilesExamples
 pub mod BoundsExamples
 pub mod Settings

@@ -1,11 +1,11 @@
 -- What the words of the command line ask for.
-use Rattle.std.specs.Prelude.{◌≡◌, ◌≢◌, ℕ, ◌*◌, ◌≤◌, List, [], ◌∷◌, length, codes, Bool, true, false, ◌==◌, ◌||◌, nat_lt, if◌then◌else◌, Option, Some, None, option_map, is_none, unwrap_or, IfSome, Result, Ok, Err}
+use Rattle.std.specs.Prelude.{◌≡◌, ◌≢◌, ℕ, ◌*◌, ◌≤◌, List, [], ◌∷◌, length, codes, Bool, true, false, ◌==◌, ◌||◌, nat_lt, if◌then◌else◌, Option, Some, None, option_map, is_some, is_none, unwrap_or, IfSome, Result, Ok, Err}
 use Rattle.std.specs.List.{All, AllPairs}
 use Rattle.std.specs.Str.{bytes_eq}
 use Rattle.base.specs.Spelling.{number_at}
 use Rattle.yds_kernel.specs.declared.limits.TheConstants.{MAX_NUMBER}
 use Rattle.yds_trace.specs.declared.limits.TheConstants.{MAX_PROCESSOR, MAX_TIME}
-use Rattle.yds_trace.specs.Asked.{Asked, IsAsked, IsWithin}
+use Rattle.yds_trace.specs.Asked.{Start, Fixed, Asked, IsAsked, IsWithin}
 use Rattle.yds_trace_bounds.specs.declared.bounds.Moment.{Moment}
 use Rattle.yds_trace_bounds.specs.declared.bounds.Moment.TheVariants.{Clock, AfterFirst}
 use Rattle.yds_trace_bounds.specs.declared.bounds.Bounds.{Bounds}
@@ -57,6 +57,27 @@ abbrev pub others_asked : Option ℕ → Option (List ℕ) → Result (Option �
 others_asked cpu None = Ok None
 others_asked cpu (Some text) = if bytes_eq text (codes "spans") then of_one cpu else refuse (codes "--others") reasons.Others
 
+-- # Speeds
+
+-- The speed that each processor has throughout, unless those before the first change are given, too.
+abbrev pub fixed_at : Bool → List ℕ → Result ℕ WordFault
+fixed_at with_start text = do
+  khz ← whole_at 1 MAX_NUMBER (codes "--fixed") reasons.Speed text
+  if with_start then refuse (codes "--fixed") reasons.WithStart else Ok khz
+
+-- what `--fixed` says, if it is given, and else these speeds
+abbrev pub fixed_or : Bool → Start → Option (List ℕ) → Result Start WordFault
+fixed_or with_start told None = Ok told
+fixed_or with_start told (Some text) = do
+  khz ← fixed_at with_start text
+  Ok (Fixed khz)
+
+-- by the values of `--start` and `--fixed`
+abbrev pub speeds_asked : Option (List ℕ) → Option (List ℕ) → Result Start WordFault
+speeds_asked start fixed = do
+  told ← start_asked start
+  fixed_or (is_some start) told fixed
+
 -- # Times
 
 -- Seconds, as nanoseconds. With a plus sign before them they count from the first event, else they are of the trace's clock.
@@ -107,7 +128,7 @@ trace_by given = do
   cpu ← processor_of (value_of (codes "--cpu") given)
   us ← whole_or 10 1 MAX_UNIT (codes "--us") reasons.Unit (value_of (codes "--us") given)
   khz ← whole_or 10000 1 MAX_NUMBER (codes "--khz") reasons.Speed (value_of (codes "--khz") given)
-  start ← start_asked (value_of (codes "--start") given)
+  start ← speeds_asked (value_of (codes "--start") given) (value_of (codes "--fixed") given)
   bounds ← bounds_by given
   begin ← only (codes "--begin") (codes "run") reasons.Begin (value_of (codes "--begin") given)
   lost ← only (codes "--lost") (codes "cut") reasons.Lost (value_of (codes "--lost") given)

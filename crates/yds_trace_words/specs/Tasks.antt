@@ -1,10 +1,11 @@
--- The tasks that `--tasks` lists: `NAME:DEADLINE[:APART]` or `PID=NAME:DEADLINE[:APART]`, parted by commas, in milliseconds.
+-- The tasks that `--tasks` lists: `NAME:DEADLINE[:APART[:PERIOD]]` or `PID=NAME:DEADLINE[:APART[:PERIOD]]`, parted by commas, in milliseconds.
 use Rattle.std.specs.Prelude.{ℕ, ◌+◌, List, [], ◌∷◌, length, Bool, false, ◌==◌, ◌&&◌, nat_le, nat_lt, if◌then◌else◌, codes, Option, Some, None, Result, Ok, Err}
 use Rattle.std.specs.List.{list_any, slice_split, before_first, after_first}
 use Rattle.std.specs.Str.{bytes_eq}
 use Rattle.base.specs.Spelling.{number_at, is_name}
 use Rattle.yds_kernel.specs.declared.limits.TheConstants.{MAX_NUMBER}
 use Rattle.yds_trace.specs.declared.limits.TheConstants.{MAX_DEADLINE}
+use Rattle.yds_trace.specs.declared.job.Pace.{Pace}
 use Rattle.yds_trace.specs.Asked.{Which, Named, Numbered, Task}
 use Rattle.yds_trace_words.specs.declared.limits.TheConstants.{MAX_LABEL, MAX_TASKS}
 use Rattle.yds_trace_words.specs.declared.fault.Reason.{Reason}
@@ -76,34 +77,64 @@ deadline_at unit place letters = do
   deadline ← milliseconds_at place reasons.Deadline letters
   if nat_le unit deadline then Ok deadline else refuse_task place reasons.ShortDeadline
 
+-- where a period stands behind it: empty, it is 0
+abbrev pub apart_at : ℕ → List Letter → Result ℕ WordFault
+apart_at place [] = Ok 0
+apart_at place (letter ∷ letters) = milliseconds_at place reasons.Apart (letter ∷ letters)
+
+-- A period is above 0.
+abbrev pub period_at : ℕ → List Letter → Result ℕ WordFault
+period_at place letters = do
+  period ← milliseconds_at place reasons.Period letters
+  if nat_lt 0 period then Ok period else refuse_task place reasons.Period
+
+-- `APART:PERIOD`
+abbrev pub periodic_at : ℕ → List Letter → List Letter → Result Pace WordFault
+periodic_at place first second = do
+  apart ← apart_at place first
+  period ← period_at place second
+  Ok (record { apart = apart; period = period })
+
+-- `APART`
+abbrev pub apart_alone_at : ℕ → List Letter → Result Pace WordFault
+apart_alone_at place letters = do
+  apart ← milliseconds_at place reasons.Apart letters
+  Ok (record { apart = apart; period = 0 })
+
+abbrev pub pace_at : ℕ → List Letter → Result Pace WordFault
+pace_at place letters =
+    if list_any (is_at signs.Colon) letters
+    then periodic_at place (before_first (is_at signs.Colon) letters) (after_first (is_at signs.Colon) letters)
+    else apart_alone_at place letters
+
 pub record Times : Type 0 where
   pub deadline : ℕ
-  pub apart : ℕ
+  pub pace : Pace
 
--- `DEADLINE:APART`
-abbrev pub apart_at : ℕ → ℕ → List Letter → List Letter → Result Times WordFault
-apart_at unit place first second = do
+-- `DEADLINE:APART` or `DEADLINE:APART:PERIOD`
+abbrev pub paced_at : ℕ → ℕ → List Letter → List Letter → Result Times WordFault
+paced_at unit place first second = do
   deadline ← deadline_at unit place first
-  apart ← milliseconds_at place reasons.Apart second
-  Ok (record { deadline = deadline; apart = apart })
+  pace ← pace_at place second
+  Ok (record { deadline = deadline; pace = pace })
 
 -- `DEADLINE`
 abbrev pub alone_at : ℕ → ℕ → List Letter → Result Times WordFault
 alone_at unit place letters = do
   deadline ← deadline_at unit place letters
-  Ok (record { deadline = deadline; apart = 0 })
+  Ok (record { deadline = deadline; pace = record { apart = 0; period = 0 } })
 
 abbrev pub times_at : ℕ → ℕ → List Letter → Result Times WordFault
 times_at unit place letters =
     if list_any (is_at signs.Colon) letters
-    then apart_at unit place (before_first (is_at signs.Colon) letters) (after_first (is_at signs.Colon) letters)
+    then paced_at unit place (before_first (is_at signs.Colon) letters) (after_first (is_at signs.Colon) letters)
     else alone_at unit place letters
 
 abbrev pub task_of_parts : ℕ → ℕ → List Letter → List Letter → Result Task WordFault
 task_of_parts unit place name window = do
   called ← called_at place name
   times ← times_at unit place window
-  Ok (record { label = called.label; thread = called.thread; deadline = times.deadline; apart = times.apart })
+  Ok (record { label = called.label; thread = called.thread; deadline = times.deadline; apart = times.pace.apart; period = times.pace.period })
 
 -- a task in the list, at this place counted from 1
 abbrev pub task_at : ℕ → ℕ → List Letter → Result Task WordFault

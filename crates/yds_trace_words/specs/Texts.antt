@@ -28,6 +28,7 @@ reason_text reasons.SpeedProcessor = codes "no number of a processor before the 
 reason_text reasons.SpeedForm = codes "no colon behind the processor; write CPU:KHZ, with the speed in kilohertz, or one speed for all processors"
 reason_text reasons.TooManySpeeds = codes "more than 1000 speeds; list fewer, or give one for all processors"
 reason_text reasons.ProcessorTwice = codes "another speed is of the same processor; give it once"
+reason_text reasons.WithStart = codes "given with --start; give one of both"
 reason_text reasons.Time = codes "no time; write seconds to 9223372036.854775807, with at most nine digits behind the point; +2 counts from the first line"
 reason_text reasons.FromNotBefore = codes "not before --to; give an earlier time, or a later one there"
 reason_text reasons.Begin = codes "no way in which jobs begin; write run, or leave it out for jobs that begin at wake-ups"
@@ -44,6 +45,7 @@ reason_text reasons.Pid = codes "no number of a thread before the equals sign; w
 reason_text reasons.Deadline = codes "no deadline; write milliseconds to 9223372036854.775807, with at most six digits behind the point"
 reason_text reasons.ShortDeadline = codes "its deadline is less than a unit of time; write a later one, or a smaller unit by --us"
 reason_text reasons.Apart = codes "no time behind the second colon; write milliseconds, with at most six digits behind the point"
+reason_text reasons.Period = codes "no time above 0 behind the third colon; write milliseconds, with at most six digits behind the point"
 reason_text reasons.LabelTwice = codes "another task has the same name; write PID=NAME:DEADLINE with another name"
 reason_text reasons.ThreadTwice = codes "another task is the same thread; list it once"
 

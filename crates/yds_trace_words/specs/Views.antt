@@ -74,7 +74,7 @@ abbrev pub called_read : CalledKept → Called
 called_read called = record { thread = which_read called.thread; label = called.label.items }
 
 abbrev pub times_read : TimesKept → Times
-times_read times = record { deadline = times.deadline; apart = times.apart }
+times_read times = record { deadline = times.deadline; pace = times.pace }
 
 abbrev pub pieces_read : Vec (Bor (List Letter)) Global → List (List Letter)
 pieces_read pieces = map (λ (piece : Bor (List Letter)). piece.now) pieces.items

@@ -38,7 +38,7 @@ and_behind (Err fault) more = Err fault
 abbrev pub takes_value : List ℕ → Bool
 takes_value name =
     bytes_eq name (codes "--cpu") || bytes_eq name (codes "--tasks") || bytes_eq name (codes "--us") || bytes_eq name (codes "--khz")
-    || bytes_eq name (codes "--start") || bytes_eq name (codes "--from") || bytes_eq name (codes "--to")
+    || bytes_eq name (codes "--start") || bytes_eq name (codes "--fixed") || bytes_eq name (codes "--from") || bytes_eq name (codes "--to")
     || bytes_eq name (codes "--begin") || bytes_eq name (codes "--lost") || bytes_eq name (codes "--moved") || bytes_eq name (codes "--others")
 
 -- Nothing behind these is read.

@@ -31,6 +31,8 @@ pub enum Reason {
     TooManySpeeds,
     /// A speed behind it is of the same processor.
     ProcessorTwice,
+    /// It is given together with `--start`.
+    WithStart,
     /// It is no time.
     Time,
     /// `--from` isn't before `--to`.
@@ -63,6 +65,8 @@ pub enum Reason {
     ShortDeadline,
     /// Its distance of wake-ups is no time.
     Apart,
+    /// Its period is no time above 0.
+    Period,
     /// A task behind it has the same name.
     LabelTwice,
     /// A task behind it is the same thread.

@@ -1,5 +1,6 @@
 //! What the words of the command line ask for.
 ghost use Rattle.std.specs.Prelude.{◌≡◌, ◌≤◌, map, option_map, true, IfOk};
+ghost use Rattle.yds_trace.specs.Views.{start_read};
 ghost use Rattle.yds_trace_words.specs.Request as spec;
 ghost use Rattle.yds_trace_words.specs.Tasks.{tasks_asked};
 ghost use Rattle.yds_trace_words.specs.Words.{value_of};
@@ -14,7 +15,7 @@ use crate::tasks::tasks;
 use std::alloc::Global;
 use yds_kernel::MAX_NUMBER;
 use yds_text::number_of;
-use yds_trace::{Asked, MAX_PROCESSOR, MAX_TIME, Task};
+use yds_trace::{Asked, MAX_PROCESSOR, MAX_TIME, Start, Task};
 use yds_trace_bounds::{Bounds, Moment};
 
 /// What the words ask for.
@@ -92,7 +93,7 @@ fn trace_by<'a>(alloc: Global, given: &[Setting<'a>]) -> Result<Request, NoReque
     let processor = processor(value(given, b"--cpu"))?;
     let unit = whole(given, b"--us", 10, (1, MAX_UNIT), Reason::Unit)?;
     let khz = whole(given, b"--khz", 10_000, (1, MAX_NUMBER), Reason::Speed)?;
-    let start = start(alloc, value(given, b"--start"))?;
+    let start = speeds(alloc, value(given, b"--start"), value(given, b"--fixed"))?;
     let bounds = bounds_by(given)?;
     let begin_at_run = only(b"--begin", b"run", Reason::Begin, value(given, b"--begin"))?;
     let cut_losses = only(b"--lost", b"cut", Reason::Lost, value(given, b"--lost"))?;
@@ -127,6 +128,32 @@ fn trace_by<'a>(alloc: Global, given: &[Setting<'a>]) -> Result<Request, NoReque
         bounds,
         strict,
     })
+}
+
+/// The speeds before the first change, or the one that each processor has throughout.
+fn speeds<'a>(
+    alloc: Global,
+    first: Option<&[u8]>,
+    fixed: Option<&[u8]>,
+) -> Result<Start, NoRequest<'a>>
+    ensures { Reads start_read result (spec.speeds_asked (option_map (λ value. value.now) first.entry) (option_map (λ value. value.now) fixed.entry)) }
+{
+    let told = start(alloc, first)?;
+    match fixed {
+        Some(text) => Ok(Start::Fixed(fixed_speed(first.is_some(), text)?)),
+        None => Ok(told),
+    }
+}
+
+/// The speed that each processor has throughout, unless those before the first change are given, too.
+fn fixed_speed<'a>(with_start: bool, text: &[u8]) -> Result<u64, WordFault<'a>>
+    ensures { Takes (λ khz. khz) result (spec.fixed_at with_start text.now) }
+{
+    match number_of(text, 1, MAX_NUMBER) {
+        Ok(_) if with_start => Err(WordFault::of(b"--fixed", Reason::WithStart)),
+        Ok(khz) => Ok(khz),
+        Err(_) => Err(WordFault::of(b"--fixed", Reason::Speed)),
+    }
 }
 
 /// The tasks, which have to be given.

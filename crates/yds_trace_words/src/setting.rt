@@ -183,6 +183,7 @@ fn takes_value(name: &[u8]) -> bool
         || name == b"--us".as_slice()
         || name == b"--khz".as_slice()
         || name == b"--start".as_slice()
+        || name == b"--fixed".as_slice()
         || name == b"--from".as_slice()
         || name == b"--to".as_slice()
         || name == b"--begin".as_slice()

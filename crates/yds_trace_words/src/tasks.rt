@@ -14,7 +14,7 @@ use crate::limits::{MAX_LABEL, MAX_TASKS};
 use std::alloc::Global;
 use yds_kernel::MAX_NUMBER;
 use yds_text::number_of;
-use yds_trace::{MAX_DEADLINE, Task, Which};
+use yds_trace::{MAX_DEADLINE, Pace, Task, Which};
 
 /// Which thread a task is, and how its jobs are called.
 #[derive(Debug, Drop)]
@@ -23,11 +23,11 @@ pub(crate) struct Called {
     label: Vec<u8>,
 }
 
-/// A task's deadline, and how far apart the begins of its jobs are at least, in nanoseconds.
+/// A task's deadline, how far apart the begins of its jobs are at least, and its period, in nanoseconds.
 #[derive(Clone, Copy, Debug)]
 pub(crate) struct Times {
     deadline: u64,
-    apart: u64,
+    pace: Pace,
 }
 
 /// What this value of `--tasks` lists.
@@ -83,7 +83,8 @@ fn task<'a>(
         label: called.label,
         thread: called.thread,
         deadline: times.deadline,
-        apart: times.apart,
+        apart: times.pace.apart,
+        period: times.pace.period,
     })
 }
 
@@ -146,7 +147,7 @@ fn are_visible(text: &[u8]) -> bool
     text.iter().all(|byte| byte.is_ascii_graphic())
 }
 
-/// `DEADLINE` or `DEADLINE:APART`.
+/// `DEADLINE`, and behind a colon how its jobs follow one another.
 fn read_times<'a>(
     alloc: Global,
     unit: u64,
@@ -155,17 +156,61 @@ fn read_times<'a>(
 ) -> Result<Times, NoRequest<'a>>
     ensures { Reads times_read result (spec.times_at unit place letters.now) }
 {
-    let (deadline, apart) = split_at(letters, Sign::Colon);
-    match apart {
-        Some(apart) => {
+    let (deadline, behind) = split_at(letters, Sign::Colon);
+    match behind {
+        Some(behind) => {
             let deadline = deadline_of(alloc, unit, place, deadline)?;
-            let apart = milliseconds(alloc, place, Reason::Apart, apart)?;
-            Ok(Times { deadline, apart })
+            let pace = read_pace(alloc, place, behind)?;
+            Ok(Times { deadline, pace })
         }
         None => {
             let deadline = deadline_of(alloc, unit, place, letters)?;
-            Ok(Times { deadline, apart: 0 })
+            let pace = Pace {
+                apart: 0,
+                period: 0,
+            };
+            Ok(Times { deadline, pace })
         }
+    }
+}
+
+/// `APART` or `APART:PERIOD`.
+fn read_pace<'a>(alloc: Global, place: usize, letters: &[Letter]) -> Result<Pace, NoRequest<'a>>
+    ensures { Reads (λ pace. pace) result (spec.pace_at place letters.now) }
+{
+    let (apart, period) = split_at(letters, Sign::Colon);
+    match period {
+        Some(period) => {
+            let apart = apart_of(alloc, place, apart)?;
+            let period = period_of(alloc, place, period)?;
+            Ok(Pace { apart, period })
+        }
+        None => {
+            let apart = milliseconds(alloc, place, Reason::Apart, letters)?;
+            Ok(Pace { apart, period: 0 })
+        }
+    }
+}
+
+/// How far apart the begins of jobs are at least, where a period stands behind it: empty, it is 0.
+fn apart_of<'a>(alloc: Global, place: usize, letters: &[Letter]) -> Result<u64, NoRequest<'a>>
+    ensures { Reads (λ time. time) result (spec.apart_at place letters.now) }
+{
+    match letters {
+        [] => Ok(0),
+        [_, ..] => milliseconds(alloc, place, Reason::Apart, letters),
+    }
+}
+
+/// A period, which is above 0.
+fn period_of<'a>(alloc: Global, place: usize, letters: &[Letter]) -> Result<u64, NoRequest<'a>>
+    ensures { Reads (λ time. time) result (spec.period_at place letters.now) }
+{
+    let period = milliseconds(alloc, place, Reason::Period, letters)?;
+    if 0 < period {
+        Ok(period)
+    } else {
+        Err(NoRequest::Fault(WordFault::of_task(place, Reason::Period)))
     }
 }
 

@@ -12,7 +12,7 @@ use itoa::Buffer;
 pub const HELP: &[u8] = b"\
 yds_trace: the jobs and runs of tasks on one processor, from a kernel's trace
 
-usage: yds_trace --tasks NAME:DEADLINE[:APART],.. [WORDS] [FILE ..] > DOCUMENT
+usage: yds_trace --tasks NAME:DEADLINE[:APART[:PERIOD]],.. [WORDS] [FILE ..] > DOCUMENT
 
 It reads sched_switch, sched_waking, sched_wakeup, sched_wakeup_new and cpu_frequency as text: the kernel's trace file,
 trace-cmd report, perf script, or Perfetto's export. It writes a document, which yds_cli reads: a job begins where its
@@ -20,6 +20,8 @@ thread is woken and ends where that leaves the processor to sleep.
 
   --tasks LIST   the tasks, parted by commas: NAME:DEADLINE or PID=NAME:DEADLINE, in milliseconds from a job's begin.
                  With :APART behind, a wake-up less than so many milliseconds after a job's begin goes on with that job.
+                 With :PERIOD behind that, a job is due no later than so many milliseconds behind the one before; APART may
+                 be empty, as in decode:16::20.
                  A backslash before a comma, a colon, an equals sign or a backslash makes that a byte of a name
   --tasks ?      writes no document: the threads of the trace, those that ran longest first
   --cpu N        the processor (0)
@@ -28,10 +30,13 @@ thread is woken and ends where that leaves the processor to sleep.
   --khz N        so many kilohertz are a unit of speed (10000)
   --start KHZ    the speed of each processor before the trace tells one, in kilohertz; or CPU:KHZ,CPU:KHZ,.. for these
                  processors, and then that of others isn't known before the trace tells it
+  --fixed KHZ    the speed of each processor throughout, also behind lost events; a line that tells another one is a fault.
+                 It doesn't go with --start
   --from S       from this time on, in seconds of the trace's clock; +2 counts from the trace's first line that has a time
   --to S         up to this time
   --begin run    jobs begin at their first run, and wake-ups aren't read
-  --lost cut     goes on where events were lost, and leaves out the jobs that may have been open there
+  --lost cut     goes on where events were lost, or switches of tasks are missing, and leaves out the jobs that may have
+                 been open there
   --moved parts  shares out a job that ran on several processors: the documents of each have what it ran there, as NAME@CPU
   --others spans tells in comments who else had the processor while a job waited
   --parts        writes documents one behind the other, each as soon as it is whole, for a trace of any length
@@ -51,8 +56,8 @@ that no reader of documents takes it for one.
 /// The line of `--version`.
 pub const VERSION: &[u8] = b"yds_trace 2.0.0\n";
 
-/// How many bytes the text of a fault of the words has at most.
-pub const LINE_BYTES: usize = 320;
+/// How many bytes the text of a fault has at most.
+pub const LINE_BYTES: usize = 352;
 
 /// The comment that tells why words can't be taken, and the line that no reader of documents takes. It is made on the stack.
 pub fn fault_line(fault: &WordFault<'_>) -> ArrayString<LINE_BYTES>
@@ -94,7 +99,7 @@ fn push_number(text: &str, number: usize, line: &mut ArrayString<LINE_BYTES>)
 
 /// The first 64 bytes of a word, as a comment shows them.
 pub fn push_shown(word: &[u8], line: &mut ArrayString<LINE_BYTES>)
-    requires { array_string_len line.old ≤ 100 }
+    requires { array_string_len line.old ≤ 200 }
     ensures shown { line.new.bytes ≡ line.old.bytes ++ spec.shown_word word.now }
     ensures short { array_string_len line.new ≤ array_string_len line.old + 64 }
 {
@@ -139,6 +144,7 @@ fn reason_text(reason: Reason) -> &'static str
         Reason::TooManySpeeds =>
             "more than 1000 speeds; list fewer, or give one for all processors",
         Reason::ProcessorTwice => "another speed is of the same processor; give it once",
+        Reason::WithStart => "given with --start; give one of both",
         Reason::Time => {
             "no time; write seconds to 9223372036.854775807, with at most nine digits behind the point; +2 counts from the first line"
         }
@@ -174,6 +180,9 @@ fn reason_text(reason: Reason) -> &'static str
         }
         Reason::Apart => {
             "no time behind the second colon; write milliseconds, with at most six digits behind the point"
+        }
+        Reason::Period => {
+            "no time above 0 behind the third colon; write milliseconds, with at most six digits behind the point"
         }
         Reason::LabelTwice => {
             "another task has the same name; write PID=NAME:DEADLINE with another name"

@@ -11,5 +11,4 @@ returns c = λ start counting is. record {
       (c.in_ok-jobs.ensures ∙ ap (map job_read) c.deref.ensures.value);
   forgotten = refl;
   before = c.first_before.ensures;
-  last = c.last_begin.ensures;
 }

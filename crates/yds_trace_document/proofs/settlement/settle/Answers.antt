@@ -19,7 +19,7 @@ returns c asked past is =
     (kept_same c.args.ended.now asked past (judged_lists c.in_ok-by_task.by_task.items) (map other_read c.deref-4.result.now) is
     (c.in_ok-by_task.ensures
     ∙ ap₂ (λ (tasks : List TaskKept) (jobs : List (Vec JobKept Global)).
-    judged_tasks (within_of (asked_read c.args.ended.now.asked) c.args.ended.now.last) 0 (map task_read tasks) (map in_order_of_begin jobs))
+    judged_tasks (within_of (asked_read c.args.ended.now.asked) c.args.ended.now.first c.args.ended.now.last) 0 (map task_read tasks) (map in_order_of_begin jobs))
     c.deref.ensures.value c.deref-2.ensures.value)
     (ap (λ (others : List OtherKept). map other_read others) c.deref-4.ensures.value
     ∙ c.in_ok-others.ensures

@@ -1,6 +1,6 @@
 use Rattle.base.proofs.Common.{◌≡◌, IfOk, sym, subst, err_from_is_err_and}
 use Rattle.yds_trace.specs.Asked.{Asked, on}
-use Rattle.yds_trace.specs.Parts.{may_write, place_of}
+use Rattle.yds_trace.specs.Parts.{place_of}
 use Rattle.yds_trace_parts.specs.Telling.{without_job_at}
 use Rattle.yds_trace_parts.proofs.Parting.{memory_halts}
 use Rattle.yds_trace_parts.proofs.Plain.{look_turned, look_plain, shares_or, shared_on}
@@ -27,6 +27,4 @@ returns-clause-made c asked past boundary at shows later due =
     (c.without_job.ensures.made past
     (shared_on asked c.asked-asked.result.now c.args.processor past boundary c.args.cut.boundary c.args.shown.now c.unwrap_or-shares.result.now
     (shares_or c.asked-asked.result.now c.as_ref.result c.in_ok-own.own c.args.shown c.unwrap_or-shares.result c.as_ref.ensures.value c.unwrap_or-shares.ensures
-    (λ lines before shown. c.in_ok-own.ensures lines before shown)) same later shows) due
-    (subst (λ (words : Asked). c.may_write-may_write.result ≡ may_write words past) (sym same)
-    (c.may_write-may_write.ensures (on c.args.processor asked) past boundary stands)))
+    (λ lines before shown. c.in_ok-own.ensures lines before shown)) same later shows) due)

@@ -33,8 +33,11 @@ returns-in-TooLong-clause-text c = c.push_str-in-TooLong.ensures.bytes ∙ ap (�
 pub returns-in-NoLine-clause-text : goal.returns-in-NoLine-clause-text
 returns-in-NoLine-clause-text c = c.push_str-in-NoLine.ensures.bytes ∙ ap (λ (fault : Cause). c.args.line.now.bytes ++ cause_text fault) (sym c.in-NoLine.is)
 
-pub returns-in-NoWakeUp-clause-text : goal.returns-in-NoWakeUp-clause-text
-returns-in-NoWakeUp-clause-text c = c.push_str-in-NoWakeUp.ensures.bytes ∙ ap (λ (fault : Cause). c.args.line.now.bytes ++ cause_text fault) (sym c.in-NoWakeUp.is)
+pub returns-in-LineMissing-clause-text : goal.returns-in-LineMissing-clause-text
+returns-in-LineMissing-clause-text c = c.push_str-in-LineMissing.ensures.bytes ∙ ap (λ (fault : Cause). c.args.line.now.bytes ++ cause_text fault) (sym c.in-LineMissing.is)
+
+pub returns-in-SpeedChanged-clause-text : goal.returns-in-SpeedChanged-clause-text
+returns-in-SpeedChanged-clause-text c = c.push_str-in-SpeedChanged.ensures.bytes ∙ ap (λ (fault : Cause). c.args.line.now.bytes ++ cause_text fault) (sym c.in-SpeedChanged.is)
 
 pub returns-in-Exited-clause-text : goal.returns-in-Exited-clause-text
 returns-in-Exited-clause-text c = c.push_str-in-Exited.ensures.bytes ∙ ap (λ (fault : Cause). c.args.line.now.bytes ++ cause_text fault) (sym c.in-Exited.is)

@@ -30,5 +30,8 @@ returns-in-NoJob-clause-text c = c.push_no_job.ensures.text ∙ ap (λ (fault : 
 pub returns-in-NoJobAnywhere-clause-text : goal.returns-in-NoJobAnywhere-clause-text
 returns-in-NoJobAnywhere-clause-text c = c.push_str-in-NoJobAnywhere.ensures.bytes ∙ ap (λ (fault : DocumentFault). c.args.line.now.bytes ++ document_text fault) (sym c.in-NoJobAnywhere.is)
 
+pub returns-in-NotKnown-clause-text : goal.returns-in-NotKnown-clause-text
+returns-in-NotKnown-clause-text c = c.push_placed-in-NotKnown.ensures.text ∙ ap (λ (fault : DocumentFault). c.args.line.now.bytes ++ document_text fault) (sym c.in-NotKnown.is)
+
 pub returns-in-Missed-clause-text : goal.returns-in-Missed-clause-text
 returns-in-Missed-clause-text c = c.push_placed-in-Missed.ensures.text ∙ ap (λ (fault : DocumentFault). c.args.line.now.bytes ++ document_text fault) (sym c.in-Missed.is)

@@ -7,9 +7,8 @@ pub returns : goal.returns
 returns c = record {
   times = c.in_ok-new.ensures.stands;
   lost = refl;
-  woken = refl;
   as_many = grind (arith, common_steps);
   came = c.in_ok-new.ensures.came;
-  tallied = c.new-2.ensures c.args.asked.now.from c.args.asked.now.to (asked_read c.args.asked.now).tasks;
+  tallied = c.new-2.ensures (asked_read c.args.asked.now);
   seen = λ number within. grind (arith, common_steps);
 }

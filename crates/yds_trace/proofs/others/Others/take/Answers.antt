@@ -1,7 +1,8 @@
 use Rattle.base.proofs.Common.{◌∙◌, ◌∷◌, ap, option_map}
 use Rattle.yds_kernel.specs.Event.{Stamped}
 use Rattle.yds_kernel.specs.Views.{event_read}
-use Rattle.yds_trace.specs.Others.{who_has, other_of}
+use Rattle.yds_trace.specs.Past.{who_has}
+use Rattle.yds_trace.specs.Others.{other_of}
 use Rattle.yds_trace.specs.Views.{another_read}
 use Rattle.yds_trace.proofs.Spans.{others_more}
 use Rattle.yds_trace.proofs.others.Others.take.Goals as goal

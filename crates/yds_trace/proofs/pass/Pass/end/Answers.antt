@@ -31,5 +31,5 @@ returns-clause-ended c = λ asked past at. record {
       (c.last_asked-until.ensures asked past (ap (λ (read : Asked). read.to) (sym at.same_asked)) at.lines.times.last) at.counted.others;
   first = c.unwrap_or.ensures ∙ sym (at.lines.times.first 0);
   last = sym at.lines.times.last;
-  tally = c.tally.ensures asked past at.lines;
+  tally = c.tally-tally.ensures asked past at.same_asked at.lines;
 }

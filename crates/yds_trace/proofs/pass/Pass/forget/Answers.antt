@@ -10,6 +10,7 @@ returns-clause-stands c = λ asked past before at later. record {
   lines = at.lines;
   counted = record {
     times = at.counted.times;
+    came = at.counted.came;
     as_many = c.forget_each.ensures.many ∙ at.counted.as_many;
     tasks = λ number default within.
         followed_forgets asked (up_to asked.to past) c.args.self.now.counted.boundary c.args.boundary number _ _ (omega (arith, at.within, later))

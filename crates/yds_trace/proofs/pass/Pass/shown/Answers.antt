@@ -30,5 +30,5 @@ returns c = λ asked past boundary at. record {
       (c.last_asked-until.ensures asked past (ap (λ (read : Asked). read.to) (sym at.same_asked)) at.lines.times.last) at.counted.others;
   first = c.unwrap_or.ensures ∙ sym (at.lines.times.first 0);
   last = sym at.lines.times.last;
-  tally = c.tally.ensures asked past at.lines;
+  tally = c.tally.ensures asked past at.same_asked at.lines;
 }

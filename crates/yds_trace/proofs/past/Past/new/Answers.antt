@@ -9,11 +9,15 @@ use Rattle.yds_trace.proofs.past.Past.new.Goals as goal
 told_as : (speeds kept : List StartSpeedKept) (told : List Told) → speeds ≡ kept → TellsSpeeds (map speed_read speeds) told → TellsSpeeds (map speed_read kept) told
 told_as speeds kept told same tells = subst (λ (list : List StartSpeedKept). TellsSpeeds (map speed_read list) told) same tells
 
+pub returns-in-Fixed-clause-stands : goal.returns-in-Fixed-clause-stands
+returns-in-Fixed-clause-stands c =
+    c.begun.ensures.stands (start_read c.args.start.now) (rw c.in-Fixed.is refl) (λ processor. rw (c.in-Fixed.is, c.new.ensures.items) refl)
+
 pub returns-in-Same-clause-came : goal.returns-in-Same-clause-came
-returns-in-Same-clause-came c = c.begun.ensures.came (λ processor. rw c.new.ensures.items refl)
+returns-in-Same-clause-came c = c.begun-in-Same.ensures.came (λ processor. rw c.new-in-Same.ensures.items refl)
 
 pub returns-in-Same-clause-stands : goal.returns-in-Same-clause-stands
-returns-in-Same-clause-stands c = c.begun.ensures.stands (start_read c.args.start.now) (λ processor. rw (c.in-Same.is, c.new.ensures.items) refl)
+returns-in-Same-clause-stands c = c.begun-in-Same.ensures.stands (start_read c.args.start.now) (rw c.in-Same.is refl) (λ processor. rw (c.in-Same.is, c.new-in-Same.ensures.items) refl)
 
 pub returns-in_ok-first_told-in-Listed-clause-came : goal.returns-in_ok-first_told-in-Listed-clause-came
 returns-in_ok-first_told-in-Listed-clause-came c =
@@ -21,5 +25,5 @@ returns-in_ok-first_told-in-Listed-clause-came c =
 
 pub returns-in_ok-first_told-in-Listed-clause-stands : goal.returns-in_ok-first_told-in-Listed-clause-stands
 returns-in_ok-first_told-in-Listed-clause-stands c =
-    c.begun-in-Listed.ensures.stands (start_read c.args.start.now)
+    c.begun-in-Listed.ensures.stands (start_read c.args.start.now) (rw c.in-Listed.is refl)
     (rw c.in-Listed.is (told_as _ _ c.in_ok-first_told-in-Listed.field-0.items c.deref.ensures.value c.in_ok-first_told-in-Listed.ensures))

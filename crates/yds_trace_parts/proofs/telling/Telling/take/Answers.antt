@@ -25,15 +25,15 @@ returns-then-not-looks-clause-adds c = λ asked strict past is many.
 
 pub returns-clause-told : goal.returns-clause-told
 returns-clause-told c = λ asked strict past is many.
-    c.write.ensures.told asked strict past (said_read c.args.said) (c.in_ok-take_said.ensures.taken asked strict past is many) many
+    c.write.ensures.told asked strict past (said_read c.args.said) (c.in_ok-take_said.ensures.taken asked strict past is many)
     (c.looks.ensures.due (said_read c.args.said ∷ past) (omega (arith, many)) c.if-not-looks.false)
 
 pub returns-clause-adds : goal.returns-clause-adds
 returns-clause-adds c = λ asked strict past is many.
-    c.write.ensures.adds asked strict past (said_read c.args.said) (c.in_ok-take_said.ensures.taken asked strict past is many) many
+    c.write.ensures.adds asked strict past (said_read c.args.said) (c.in_ok-take_said.ensures.taken asked strict past is many)
     (c.looks.ensures.due (said_read c.args.said ∷ past) (omega (arith, many)) c.if-not-looks.false)
 
 pub returns-clause-halts : goal.returns-clause-halts
 returns-clause-halts c = λ asked strict past is many.
-    c.write.ensures.halts asked strict past (said_read c.args.said) (c.in_ok-take_said.ensures.taken asked strict past is many) many
+    c.write.ensures.halts asked strict past (said_read c.args.said) (c.in_ok-take_said.ensures.taken asked strict past is many)
     (c.looks.ensures.due (said_read c.args.said ∷ past) (omega (arith, many)) c.if-not-looks.false)

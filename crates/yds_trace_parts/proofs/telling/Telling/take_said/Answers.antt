@@ -1,7 +1,7 @@
 use Rattle.base.proofs.Common.{refl, sym, subst, ℕ, err_from_is_err_and}
 use Rattle.yds_kernel.specs.Views.{said_read}
 use Rattle.yds_trace.specs.Kept.{told_to_forget}
-use Rattle.yds_trace.specs.Parts.{next_processor}
+use Rattle.yds_trace.specs.Past.{next_processor}
 use Rattle.yds_trace_parts.specs.Plain.{IsPlainPass}
 use Rattle.yds_trace_parts.proofs.Parting.{memory_halts}
 use Rattle.yds_trace_parts.proofs.Plain.{room_taken}

@@ -24,12 +24,12 @@ unseen_behind-requires c =
     (λ asked past boundary at. c.in_ok-pieces.ensures.turned asked past boundary at)
 
 pub returns-in_err-shown-clause-halts : goal.returns-in_err-shown-clause-halts
-returns-in_err-shown-clause-halts c = λ asked strict past said is many due.
+returns-in_err-shown-clause-halts c = λ asked strict past said is due.
     let p = err_from_is_err_and c.from_residual.result c.from_residual.ensures.1 in
     rw p.1 (memory_halts _ _ p.2)
 
 pub returns-in_err-pieces-clause-halts : goal.returns-in_err-pieces-clause-halts
-returns-in_err-pieces-clause-halts c = λ asked strict past said is many due.
+returns-in_err-pieces-clause-halts c = λ asked strict past said is due.
     let told = err_from_is_err_and c.from_residual-in_err-pieces.result c.from_residual-in_err-pieces.ensures.1 in
     let time = told_to_forget c.args.self.now.pass in
     let shown : IsShown asked (said ∷ past) time c.in_ok-shown.shown = c.in_ok-shown.ensures asked (said ∷ past) time is.stands in
@@ -38,15 +38,15 @@ returns-in_err-pieces-clause-halts c = λ asked strict past said is many due.
     (of_told time c.args.self.now.processors.items c.args.self.now.unseen is.is_written.later.1) in
     rw (told.1, told.2) (pieces_halted asked strict past said c.args.self.now _ is
     (subst (λ (ones : List Processor). IsHaltFor (pieces_at asked c.args.self.now.strict (said ∷ past) ones).halt c.in_err-pieces.field-0.0) c.deref.ensures.value
-    (c.in_err-pieces.ensures.halts asked (said ∷ past) time is.stands shown none (omega (arith, many)) due)))
+    (c.in_err-pieces.ensures.halts asked (said ∷ past) time is.stands shown none due)))
 
 pub returns-in_err-unseen-clause-halts : goal.returns-in_err-unseen-clause-halts
-returns-in_err-unseen-clause-halts c = λ asked strict past said is many due.
+returns-in_err-unseen-clause-halts c = λ asked strict past said is due.
     let told = err_from_is_err_and c.from_residual-in_err-unseen.result c.from_residual-in_err-unseen.ensures.1 in
     rw (told.1, told.2) (halts_for_none _ _ c.in_err-unseen.ensures.halts)
 
 pub returns-clause-adds : goal.returns-clause-adds
-returns-clause-adds c = λ asked strict past said is many due.
+returns-clause-adds c = λ asked strict past said is due.
     let time = told_to_forget c.args.self.now.pass in
     let shown : IsShown asked (said ∷ past) time c.in_ok-shown.shown = c.in_ok-shown.ensures asked (said ∷ past) time is.stands in
     let none : NoneEndsBefore time (cuts_of c.deref.result.now None) =
@@ -54,11 +54,11 @@ returns-clause-adds c = λ asked strict past said is many due.
     (of_told time c.args.self.now.processors.items c.args.self.now.unseen is.is_written.later.1) in
     let made : ArePieces asked c.args.self.now.strict (said ∷ past) c.args.self.now.processors.items c.in_ok-pieces.pieces =
     subst (λ (ones : List Processor). ArePieces asked c.args.self.now.strict (said ∷ past) ones c.in_ok-pieces.pieces) c.deref.ensures.value
-    (c.in_ok-pieces.ensures.made asked (said ∷ past) time is.stands shown none (omega (arith, many)) due) in
+    (c.in_ok-pieces.ensures.made asked (said ∷ past) time is.stands shown none due) in
     pieces_add asked strict past said c.args.self.now c.in_ok-pieces.pieces is made
 
 pub returns-clause-told : goal.returns-clause-told
-returns-clause-told c = λ asked strict past said is many due.
+returns-clause-told c = λ asked strict past said is due.
     let time = told_to_forget c.args.self.now.pass in
     let shown : IsShown asked (said ∷ past) time c.in_ok-shown.shown = c.in_ok-shown.ensures asked (said ∷ past) time is.stands in
     let none : NoneEndsBefore time (cuts_of c.deref.result.now None) =
@@ -66,7 +66,7 @@ returns-clause-told c = λ asked strict past said is many due.
     (of_told time c.args.self.now.processors.items c.args.self.now.unseen is.is_written.later.1) in
     let made : ArePieces asked c.args.self.now.strict (said ∷ past) c.args.self.now.processors.items c.in_ok-pieces.pieces =
     subst (λ (ones : List Processor). ArePieces asked c.args.self.now.strict (said ∷ past) ones c.in_ok-pieces.pieces) c.deref.ensures.value
-    (c.in_ok-pieces.ensures.made asked (said ∷ past) time is.stands shown none (omega (arith, many)) due) in
+    (c.in_ok-pieces.ensures.made asked (said ∷ past) time is.stands shown none due) in
     let turned : IsTurned asked (said ∷ past) time c.next_pieces.new.pass = c.in_ok-pieces.ensures.turned asked (said ∷ past) time is.stands in
     let after = c.in_ok-unseen.ensures.turned (on turned.processor asked) (said ∷ past) time turned.stands in
     let back = c.turn_to.ensures.stands (on after.processor (on turned.processor asked)) (said ∷ past) time after.stands in

@@ -1,0 +1,27 @@
+use Rattle.base.proofs.Common.{◌≡◌, ◌∙◌, refl, sym, ap, ap₂}
+use Rattle.yds_kernel.specs.Event.{Thread}
+use Rattle.yds_kernel.specs.Views.{event_read, thread_read}
+use Rattle.yds_trace.specs.declared.job.Leaving.{Leaving}
+use Rattle.yds_trace.specs.declared.step.Step.TheVariants as steps
+use Rattle.yds_trace.specs.declared.step.Whose.{Whose}
+use Rattle.yds_trace.specs.Asked.{Asked}
+use Rattle.yds_trace.specs.Jobs.{all_known, leaving_at, missing_of}
+use Rattle.yds_trace.specs.Steps.{whose}
+use Rattle.yds_trace.specs.Views.{asked_read}
+use Rattle.yds_trace.proofs.counted.Counted.step.Goals as goal
+
+pub returns-in-Switch : goal.returns-in-Switch
+returns-in-Switch c = λ counting is first second.
+    let asked : Asked = asked_read c.args.asked.now in
+    let previous : Thread = thread_read c.in-Switch.previous in
+    let next : Thread = thread_read c.in-Switch.next in
+    let left : c.args.first ≡ whose asked.tasks previous = rw c.in-Switch.is at first in
+    let came : c.args.second ≡ whose asked.tasks next = rw c.in-Switch.is at second in
+    let leaves : c.leaving-leaving.result ≡ leaving_at asked counting (event_read c.args.event.now) previous =
+    c.leaving-leaving.ensures asked counting previous is.times is.came (sym (ap (λ (who : Whose). who.pid) left)) in
+    rw c.in-Switch.is (ap₂ (steps.Switch c.in-Switch.state) leaves
+    (c.missing.ensures asked counting previous next is refl left came
+    ∙ ap (λ (leaving : Leaving). missing_of asked previous next leaving (all_known asked counting) 0 asked.tasks) leaves))
+
+pub returns-in-Loss : goal.returns-in-Loss
+returns-in-Loss c = λ counting is first second. rw c.in-Loss.is (ap steps.Loss (c.lost_since.ensures (asked_read c.args.asked.now).start counting is.times))
