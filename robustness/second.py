@@ -734,9 +734,11 @@ class Reading:
         return Past(self.count, self.asked)
 
     def is_behind_missing(self, line: Line) -> bool:
-        """An event, within what is asked for, before which switches of tasks are missing."""
-        within_asked = self.asked.is_up_to(line.time) and (self.asked.begin is None or self.asked.begin < line.time)
-        return line.kind == "switch" and within_asked and self.tasks.missing(line, self.past()) is not None
+        """An event, within what is asked for, before which switches of tasks are missing. Behind `to` it may count as one that tells who stayed."""
+        own = counted(line, self.lines, self.count, self.asked)
+        if own is None or own.kind != "switch" or not (self.asked.begin is None or self.asked.begin < line.time):
+            return False
+        return self.tasks.missing(own, self.past()) is not None
 
     def take(self, line: Line) -> None:
         """The next line."""

@@ -8,7 +8,7 @@ use Rattle.yds_trace.specs.Asked.{Asked, task_of}
 use Rattle.yds_trace.specs.Jobs.{Known, known_after}
 use Rattle.yds_trace.specs.Faults.{missing_at}
 use Rattle.yds_trace.specs.Past.{is_loss, lost_since, has_switched, lines_since, up_to}
-use Rattle.yds_trace.specs.Parts.{last_begin, later, reaches_back, reaches_back_so, was_there_before, has_ended, sleeps_before, woken_before, came_before, is_known_so, wakes_at, came_back, changes_parts}
+use Rattle.yds_trace.specs.Parts.{last_begin, later, reaches_back, reaches_back_so, was_there_before, has_ended, sleeps_before, woken_before, came_before, is_known_so, wakes_at, leaves_at, came_back, changes_parts}
 
 before_by : (time a b : ℕ) (first second : Bool) → nat_lt time a ≡ first → nat_lt time b ≡ second → nat_lt time (max a b) ≡ (first || second)
 before_by time a b true second first_is second_is = lt-ltb time (max a b) (let early : time < a = ltb-true time a first_is in omega (arith, early))
@@ -82,13 +82,13 @@ back_either asked past cut other event (Switch previous state next) =
     let b : Bool = is_known_so asked past previous (came_before other.boundary) in
     let c : Bool = is_known_so asked past next (sleeps_before cut.boundary) in
     let d : Bool = is_known_so asked past next (sleeps_before other.boundary) in
-    ap₂ (λ (back so : Bool). wakes_at asked event && (back || so))
+    ap₂ (λ (back so : Bool). (leaves_at asked past event && back) || (wakes_at asked event && so))
     (so_either asked past (came_before cut.boundary) (came_before other.boundary) (came_before (max cut.boundary other.boundary))
     (came_either cut.boundary other.boundary) (task_of asked.tasks previous))
     (so_either asked past (sleeps_before cut.boundary) (sleeps_before other.boundary) (sleeps_before (max cut.boundary other.boundary))
     (sleeps_either cut.boundary other.boundary) (task_of asked.tasks next))
-    ∙ ap (λ (so : Bool). wakes_at asked event && so) (crossed a b c d)
-    ∙ and_either (wakes_at asked event) (a || c) (b || d)
+    ∙ ap₂ (λ (back so : Bool). back || so) (and_either (leaves_at asked past event) a b) (and_either (wakes_at asked event) c d)
+    ∙ crossed (leaves_at asked past event && a) (leaves_at asked past event && b) (wakes_at asked event && c) (wakes_at asked event && d)
 back_either asked past cut other event (WakeUp thread starts) =
     ap (λ (so : Bool). wakes_at asked event && (not starts && so))
     (so_either asked past (woken_before cut.boundary) (woken_before other.boundary) (woken_before (max cut.boundary other.boundary))

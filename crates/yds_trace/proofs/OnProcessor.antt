@@ -1,5 +1,5 @@
 -- What is known of the tasks doesn't depend on the processor that is asked for: only why a job isn't written as it stands does.
-use Rattle.base.proofs.Common.{◌≡◌, ◌∙◌, ℕ, zero, suc, ◌+◌, ◌<◌, ◌≤◌, List, [], ◌∷◌, reverse, length, filter, Bool, true, false, not, ◌&&◌, ◌||◌, nat_lt, nat_le, if◌then◌else◌, Option, Some, None, is_some, All-weaker, fun_ext, refl, sym, ap, ap₂, arith, ltb-false, le-ltb}
+use Rattle.base.proofs.Common.{◌≡◌, ◌∙◌, ℕ, zero, suc, ◌+◌, ◌<◌, ◌≤◌, List, [], ◌∷◌, reverse, length, filter, Bool, true, false, not, ◌&&◌, ◌||◌, nat_lt, nat_le, if◌then◌else◌, Option, Some, None, is_some, unwrap_or, All-weaker, fun_ext, refl, sym, ap, ap₂, arith, ltb-false, le-ltb}
 use Rattle.yds_kernel.specs.Parts.{or_else, capped}
 use Rattle.yds_kernel.specs.Event.{Thread, Happening, Switch, WakeUp, Speed, Loss, Marker, Other, Event, Said, Stamped, Lost, Nothing}
 use Rattle.yds_trace.specs.declared.counted.Counted.{Counted}
@@ -13,13 +13,13 @@ use Rattle.yds_trace.specs.declared.others.Others.{Others as OthersKept}
 use Rattle.yds_trace.specs.declared.shown.Shown.{Shown}
 use Rattle.yds_trace.specs.declared.shown.ShownTask.{ShownTask}
 use Rattle.yds_trace.specs.Asked.{Task, Asked, on, task_at, task_of, is_number, is_before_to, is_behind_from}
-use Rattle.yds_trace.specs.Past.{processor_count, last_time, lost_since, is_loss, is_first_switch, up_to, who_has}
+use Rattle.yds_trace.specs.Past.{processor_count, last_time, lost_since, is_loss, has_switched, is_first_switch, up_to, who_has}
 use Rattle.yds_kernel.specs.declared.loss.Since.TheVariants as since
 use Rattle.yds_trace.specs.Jobs.{Job, Known, stands_on, leaving_at, missing_of, after_event, loses, all_known, known_after}
 use Rattle.yds_trace.specs.Late.{last_asked}
 use Rattle.yds_trace.specs.Document.{Judged, closed, jobs_of, began_before}
-use Rattle.yds_trace.specs.Faults.{pid_in, pid_before, is_another, is_another_thread, is_two_tasks, has_exited, is_over, has_number, is_renamed, thread_fault, first_thread_fault, state_fault, is_unwoken, needs_wake_ups, unwoken_fault, both_fault, happening_fault, is_torn, stamped_fault, place_fault, runs_on, touches, touched, length_fault, said_fault, numbered, first_fault, lost_just_before, is_behind_loss, missing_in, missing_at, loss_fault, threads_fault}
-use Rattle.yds_trace.specs.Parts.{reaches_back, reaches_back_so, was_there_before, sleeps_before, woken_before, came_before, wakes_at, came_back, changes_parts}
+use Rattle.yds_trace.specs.Faults.{pid_in, pid_before, is_another, is_another_thread, is_two_tasks, has_exited, is_over, has_number, is_renamed, thread_fault, first_thread_fault, state_fault, is_unwoken, needs_wake_ups, unwoken_fault, both_fault, happening_fault, is_torn, stamped_fault, place_fault, runs_on, touches, touched, length_fault, said_fault, numbered, first_fault, lost_just_before, is_behind_loss, missing_in, missing_stayed, missing_stayed, missing_at, loss_fault, threads_fault}
+use Rattle.yds_trace.specs.Parts.{reaches_back, reaches_back_so, was_there_before, sleeps_before, woken_before, came_before, wakes_at, leaves_at, came_back, changes_parts}
 use Rattle.yds_trace.specs.Kept.{IsFollowed, AreOthers, IsCounted, IsTallied, IsLines}
 use Rattle.yds_trace.specs.Tally.{one_more, losses_before, silence_on, longer_silence, silence_below, tally_of}
 use Rattle.yds_trace.specs.declared.tally.Tally.{Tally}
@@ -223,10 +223,22 @@ missing_in_on asked processor counting event Loss = refl
 missing_in_on asked processor counting event Marker = refl
 missing_in_on asked processor counting event Other = refl
 
+missing_stayed_on : (asked : Asked) (processor to : ℕ) (counting : List Said) (event : Event) (happening : Happening) →
+    missing_stayed (on processor asked) to counting event happening ≡ missing_stayed asked to counting event happening
+missing_stayed_on asked processor to counting event (Switch previous state next) =
+    ap {B = Option ℕ} (λ (known : ℕ → Known). if has_switched event.processor counting then None
+    else missing_of asked previous previous (leaving_at asked counting (record event { time = to }) previous) known 0 asked.tasks) (all_known_on asked processor counting)
+missing_stayed_on asked processor to counting event (WakeUp thread starts) = refl
+missing_stayed_on asked processor to counting event (Speed there khz) = refl
+missing_stayed_on asked processor to counting event Loss = refl
+missing_stayed_on asked processor to counting event Marker = refl
+missing_stayed_on asked processor to counting event Other = refl
+
 pub missing_at_on : (asked : Asked) (processor : ℕ) (past : List Said) (event : Event) → missing_at (on processor asked) past event ≡ missing_at asked past event
 missing_at_on asked processor past event =
-    ap {B = Option ℕ} (λ (missing : Option ℕ). if is_before_to asked.to event.time then missing else None)
+    ap₂ {C = Option ℕ} (λ (missing stayed : Option ℕ). if is_before_to asked.to event.time then missing else stayed)
     (missing_in_on asked processor (up_to asked.to past) event event.happening)
+    (missing_stayed_on asked processor (unwrap_or asked.to event.time) (up_to asked.to past) event event.happening)
 
 loss_fault_on : (asked : Asked) (processor : ℕ) (past : List Said) (event : Event) → loss_fault (on processor asked) past event ≡ loss_fault asked past event
 loss_fault_on asked processor past event =
@@ -297,7 +309,7 @@ so_on asked processor past test (Some number) = ap test (known_after_on asked pr
 came_back_on : (asked : Asked) (processor : ℕ) (past : List Said) (cut : Cut) (event : Event) (happening : Happening) →
     came_back (on processor asked) past cut event happening ≡ came_back asked past cut event happening
 came_back_on asked processor past cut event (Switch previous state next) =
-    ap₂ (λ (back so : Bool). wakes_at asked event && (back || so)) (so_on asked processor past (came_before cut.boundary) (task_of asked.tasks previous))
+    ap₂ (λ (back so : Bool). (leaves_at asked past event && back) || (wakes_at asked event && so)) (so_on asked processor past (came_before cut.boundary) (task_of asked.tasks previous))
     (so_on asked processor past (sleeps_before cut.boundary) (task_of asked.tasks next))
 came_back_on asked processor past cut event (WakeUp thread starts) =
     ap (λ (so : Bool). wakes_at asked event && (not starts && so)) (so_on asked processor past (woken_before cut.boundary) (task_of asked.tasks thread))

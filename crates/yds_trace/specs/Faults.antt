@@ -1,5 +1,5 @@
 -- What is a fault of a trace, beside the form of its lines: with it nothing can be said of the tasks that are asked for.
-use Rattle.std.specs.Prelude.{ℕ, suc, ◌+◌, List, [], ◌∷◌, length, Bool, true, false, not, ◌==◌, ◌&&◌, ◌||◌, nat_lt, if◌then◌else◌, Option, Some, None, is_some, is_none, position}
+use Rattle.std.specs.Prelude.{ℕ, suc, ◌+◌, List, [], ◌∷◌, length, Bool, true, false, not, ◌==◌, ◌&&◌, ◌||◌, nat_lt, if◌then◌else◌, Option, Some, None, is_some, is_none, unwrap_or, position}
 use Rattle.yds_kernel.specs.declared.state.State.{State}
 use Rattle.yds_kernel.specs.declared.state.State.TheVariants as states
 use Rattle.yds_kernel.specs.declared.loss.Since.TheVariants as since
@@ -9,7 +9,7 @@ use Rattle.yds_trace.specs.declared.limits.TheConstants.{MAX_PROCESSOR, MAX_TIME
 use Rattle.yds_trace.specs.declared.fault.Cause.{Cause}
 use Rattle.yds_trace.specs.declared.fault.Cause.TheVariants as causes
 use Rattle.yds_trace.specs.Asked.{Task, Start, Fixed, Same, Listed, Asked, task_of, is_number, is_numbered, is_named, is_before_to, is_within_to, is_behind_from}
-use Rattle.yds_trace.specs.Past.{last_time, lost_since, is_loss, is_first_switch, up_to}
+use Rattle.yds_trace.specs.Past.{last_time, lost_since, is_loss, has_switched, is_first_switch, up_to}
 use Rattle.yds_trace.specs.declared.job.End.TheVariants as ends
 use Rattle.yds_trace.specs.Jobs.{Job, Known, stands_on, leaving_at, missing_of, all_known, known_after}
 use Rattle.yds_trace.specs.Others.{any_waits}
@@ -152,10 +152,18 @@ missing_in asked counting event (Switch previous state next) =
     missing_of asked previous next (leaving_at asked counting event previous) (all_known asked counting) 0 asked.tasks
 missing_in asked counting event _ = None
 
--- the same of an event that counts
+-- the same of a processor's first switch, where it comes behind `to`: who leaves there is taken to have stayed until then
+abbrev pub missing_stayed : Asked → ℕ → List Said → Event → Happening → Option ℕ
+missing_stayed asked to counting event (Switch previous state next) =
+    if has_switched event.processor counting then None
+    else missing_of asked previous previous (leaving_at asked counting (record event { time = to }) previous) (all_known asked counting) 0 asked.tasks
+missing_stayed asked to counting event _ = None
+
+-- the same of an event as it counts
 abbrev pub missing_at : Asked → List Said → Event → Option ℕ
 missing_at asked past event =
-    if is_before_to asked.to event.time then missing_in asked (up_to asked.to past) event event.happening else None
+    if is_before_to asked.to event.time then missing_in asked (up_to asked.to past) event event.happening
+    else missing_stayed asked (unwrap_or asked.to event.time) (up_to asked.to past) event event.happening
 
 -- A place where switches of tasks are missing, within what is asked for.
 abbrev pub is_behind_missing : Asked → List Said → Event → Bool

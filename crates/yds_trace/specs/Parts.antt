@@ -227,6 +227,11 @@ is_known_so asked past thread test = elim (task_of asked.tasks thread) [
 abbrev pub wakes_at : Asked → Event → Bool
 wakes_at asked event = is_before_to asked.to event.time && not asked.begin_at_run
 
+-- Jobs begin at wake-ups, and a switch counts for who leaves by it: it isn't behind `to`, or it is its processor's first one.
+abbrev pub leaves_at : Asked → List Said → Event → Bool
+leaves_at asked past event =
+    not asked.begin_at_run && (is_before_to asked.to event.time || not (has_switched event.processor (up_to asked.to past)))
+
 -- The same of a thread that isn't seen to have a processor.
 abbrev pub came_before : ℕ → Known → Bool
 came_before boundary known = is_none known.on && woken_before boundary known
@@ -234,8 +239,8 @@ came_before boundary known = is_none known.on && woken_before boundary known
 -- Such a thread comes, or leaves without having come, or that wake-up is done: its last job goes on, or another one began before that end.
 abbrev pub came_back : Asked → List Said → Cut → Event → Happening → Bool
 came_back asked past cut event (Switch previous state next) =
-    wakes_at asked event
-    && (is_known_so asked past previous (came_before cut.boundary) || is_known_so asked past next (sleeps_before cut.boundary))
+    (leaves_at asked past event && is_known_so asked past previous (came_before cut.boundary))
+    || (wakes_at asked event && is_known_so asked past next (sleeps_before cut.boundary))
 came_back asked past cut event (WakeUp thread starts) =
     wakes_at asked event && (not starts && is_known_so asked past thread (woken_before cut.boundary))
 came_back asked past cut event _ = false

@@ -6,7 +6,7 @@ ghost use Rattle.yds_kernel.specs.Views.{event_read, said_read, thread_read};
 ghost use Rattle.yds_trace.specs.Faults as spec;
 ghost use Rattle.yds_trace.specs.Finding.{first_found, second_found};
 ghost use Rattle.yds_trace.specs.Kept.{IsCounted, IsLines};
-ghost use Rattle.yds_trace.specs.Parts.{came_back, came_before, changes_parts, is_known_so, part_fault, reaches_back_so, sleeps_before, wakes_at, was_there_before};
+ghost use Rattle.yds_trace.specs.Parts.{came_back, leaves_at, came_before, changes_parts, is_known_so, part_fault, reaches_back_so, sleeps_before, wakes_at, was_there_before};
 ghost use Rattle.yds_trace.specs.Passing.{fault_in};
 ghost use Rattle.yds_trace.specs.Past.{up_to};
 ghost use Rattle.yds_trace.specs.Views.{asked_read};
@@ -259,8 +259,8 @@ fn comes_back(
         → (state : State)
         → result ≡ came_back (asked_read asked.now) past cut (event_read event.now) (trace.Switch (thread_read previous.entry) state (thread_read next.entry)) }
 {
-    wakes_at(asked, event)
-        && (is_back(asked, counted, previous, cut) || comes_again(asked, counted, next, cut))
+    (leaves_at(asked, counted, event) && is_back(asked, counted, previous, cut))
+        || (wakes_at(asked, event) && comes_again(asked, counted, next, cut))
 }
 
 /// Whether a listed thread isn't seen to have a processor, and a wake-up was started before it left to sleep, whose last job began before the
@@ -309,4 +309,13 @@ fn wakes_at(asked: &Asked, event: &Event<'_>) -> bool
     ensures { result ≡ wakes_at (asked_read asked.now) (event_read event.now) }
 {
     is_before_to(asked.to, event.time) && !asked.begin_at_run
+}
+
+/// Whether jobs begin at wake-ups, and a switch counts for who leaves by it: it isn't behind `to`, or it is its processor's first one.
+fn leaves_at(asked: &Asked, counted: &Counted, event: &Event<'_>) -> bool
+    ensures { (past : List trace.Said) → IsCounted (asked_read asked.now) (up_to asked.now.to past) counted.now
+        → result ≡ leaves_at (asked_read asked.now) past (event_read event.now) }
+{
+    !asked.begin_at_run
+        && (is_before_to(asked.to, event.time) || !counted.past.has_switched(event.processor))
 }

@@ -129,7 +129,7 @@ impl Counted {
     {
         match event.happening {
             Happening::Switch { state, .. } => {
-                let leaving = self.past.leaving(event, first.pid);
+                let leaving = self.past.leaving(event.processor, event.time, first.pid);
                 Step::Switch {
                     state,
                     leaving,
@@ -167,7 +167,7 @@ impl Counted {
     {
         match event.happening {
             Happening::Switch { .. } => {
-                let leaving = self.past.leaving(event, first.pid);
+                let leaving = self.past.leaving(event.processor, event.time, first.pid);
                 self.missing(!asked.begin_at_run, first, second, leaving)
             }
             Happening::WakeUp { .. }
@@ -178,7 +178,27 @@ impl Counted {
         }
     }
 
-    /// The same of an event that counts.
+    /// The same of a processor's first switch, where it comes behind `to`: who leaves there is taken to have stayed until then.
+    fn missing_stayed(&self, asked: &Asked, to: u64, event: &Event<'_>, first: Whose) -> Option<u64>
+        ensures { (counting : List trace.Said) → IsCounted (asked_read asked.now) counting self.now
+            → first ≡ first_in (asked_read asked.now).tasks (event_read event.now).happening
+            → result ≡ spec.missing_stayed (asked_read asked.now) to counting (event_read event.now) (event_read event.now).happening }
+    {
+        match event.happening {
+            Happening::Switch { .. } if !self.past.has_switched(event.processor) => {
+                let leaving = self.past.leaving(event.processor, to, first.pid);
+                self.missing(!asked.begin_at_run, first, first, leaving)
+            }
+            Happening::Switch { .. }
+            | Happening::WakeUp { .. }
+            | Happening::Speed { .. }
+            | Happening::Loss
+            | Happening::Marker
+            | Happening::Other => None,
+        }
+    }
+
+    /// The same of an event as it counts.
     pub(crate) fn missing_at(
         &self,
         asked: &Asked,
@@ -192,10 +212,10 @@ impl Counted {
             → result ≡ spec.missing_at (asked_read asked.now) past (event_read event.now) }
     {
         if is_before_to(asked.to, event.time) {
-            self.missing_in(asked, event, first.whose(), second.whose())
-        } else {
-            None
+            return self.missing_in(asked, event, first.whose(), second.whose());
         }
+        let to = asked.to.unwrap_or(event.time);
+        self.missing_stayed(asked, to, event, first.whose())
     }
 
     /// How many lines tell of the tasks, with an event that is this step. Told in parts they aren't counted.

@@ -1,5 +1,6 @@
 //! What is kept of the lines so far. Times are nanoseconds.
 ghost use Rattle.std.specs.Prelude.{◌≡◌, ℕ, ◌<◌, ◌^◌, ◌==◌, if◌then◌else◌, ◌&&◌, nat_lt, not, List, [], ◌∷◌, map, slice_index_or, Option, None, IfOk, OnOk};
+ghost use Rattle.yds_kernel.specs.Event as trace;
 ghost use Rattle.yds_kernel.specs.Event.{Said, Stamped, Lost, Thread};
 ghost use Rattle.yds_kernel.specs.Views.{event_read};
 ghost use Rattle.yds_trace.specs.Asked as asking;
@@ -279,17 +280,17 @@ impl Past {
     }
 
     /// Where and how a thread of this number leaves a processor by a switch.
-    pub(crate) fn leaving(&self, event: &Event<'_>, pid: u64) -> Leaving
-        ensures { (asked : asking.Asked) (past : List Said) (previous : Thread) → IsPast asked.start past self.now → HaveCome asked.tasks past self.now
-            → previous.pid ≡ pid → result ≡ leaving_at asked past (event_read event.now) previous }
+    pub(crate) fn leaving(&self, processor: u64, time: u64, pid: u64) -> Leaving
+        ensures { (asked : asking.Asked) (past : List Said) (event : trace.Event) (previous : Thread) → IsPast asked.start past self.now → HaveCome asked.tasks past self.now
+            → event.processor ≡ processor → event.time ≡ time → previous.pid ≡ pid → result ≡ leaving_at asked past event previous }
     {
-        let told = self.told_on(event.processor);
+        let told = self.told_on(processor);
         Leaving {
-            processor: event.processor,
-            time: event.time,
+            processor,
+            time,
             khz: told.khz,
             switched: told.switched,
-            lines_since: told.since.unwrap_or(event.time),
+            lines_since: told.since.unwrap_or(time),
             renamed: is_pid(pid, told.came),
         }
     }

@@ -18,4 +18,4 @@ returns-in-Switch c = λ counting is first second.
     let came : c.args.second ≡ whose asked.tasks next = rw c.in-Switch.is at second in
     rw c.in-Switch.is (c.missing.ensures asked counting previous next is refl left came
     ∙ ap (λ (leaving : Leaving). missing_of asked previous next leaving (all_known asked counting) 0 asked.tasks)
-    (c.leaving-leaving.ensures asked counting previous is.times is.came (sym (ap (λ (who : Whose). who.pid) left))))
+    (c.leaving-leaving.ensures asked counting (event_read c.args.event.now) previous is.times is.came refl refl (sym (ap (λ (who : Whose). who.pid) left))))

@@ -18,7 +18,7 @@ returns-in-Switch c = λ counting is first second.
     let left : c.args.first ≡ whose asked.tasks previous = rw c.in-Switch.is at first in
     let came : c.args.second ≡ whose asked.tasks next = rw c.in-Switch.is at second in
     let leaves : c.leaving-leaving.result ≡ leaving_at asked counting (event_read c.args.event.now) previous =
-    c.leaving-leaving.ensures asked counting previous is.times is.came (sym (ap (λ (who : Whose). who.pid) left)) in
+    c.leaving-leaving.ensures asked counting (event_read c.args.event.now) previous is.times is.came refl refl (sym (ap (λ (who : Whose). who.pid) left)) in
     rw c.in-Switch.is (ap₂ (steps.Switch c.in-Switch.state) leaves
     (c.missing.ensures asked counting previous next is refl left came
     ∙ ap (λ (leaving : Leaving). missing_of asked previous next leaving (all_known asked counting) 0 asked.tasks) leaves))
