@@ -224,6 +224,14 @@ fn put_last_jobs(alloc: Global, jobs: &mut Vec<Job>) -> Result<(), AllocError> {
     Ok(())
 }
 
+/// Whether there is no text for this limit.
+fn is_limit(fault: &NoText, limit: DocumentFault) -> bool {
+    match fault {
+        NoText::Limit(other) => *other == limit,
+        _ => false,
+    }
+}
+
 #[test]
 fn the_text_is_the_one_written_by_hand(rt: HostRuntime) -> Result<(), Fail> {
     let alloc = rt.alloc();
@@ -231,7 +239,7 @@ fn the_text_is_the_one_written_by_hand(rt: HostRuntime) -> Result<(), Fail> {
     assert!(rt; is_plain(&ended));
     match document_text(alloc, &ended, false) {
         Ok(text) => assert_eq!(rt; text.as_slice(), TEXT),
-        Err(fault) => assert_eq!(rt; fault, NoText::Memory),
+        Err(fault) => assert!(rt; matches!(fault, NoText::Memory)),
     }
     Ok(())
 }
@@ -257,7 +265,7 @@ fn what_a_job_ran_on_a_processor_has_its_number(rt: HostRuntime) -> Result<(), F
     assert!(rt; is_plain(&ended));
     match document_text(alloc, &ended, false) {
         Ok(text) => assert_eq!(rt; text.as_slice(), SHARE),
-        Err(fault) => assert_eq!(rt; fault, NoText::Memory),
+        Err(fault) => assert!(rt; matches!(fault, NoText::Memory)),
     }
     Ok(())
 }
@@ -268,8 +276,7 @@ fn a_job_that_is_missed_is_a_fault_where_none_may_be(rt: HostRuntime) -> Result<
     let ended = ended(alloc, jobs(alloc)?)?;
     assert!(rt; is_plain(&ended));
     if let Err(fault) = document_text(alloc, &ended, true) {
-        let limit = NoText::Limit(DocumentFault::Missed(2));
-        assert!(rt; fault == limit || fault == NoText::Memory);
+        assert!(rt; is_limit(&fault, DocumentFault::Missed(2)) || matches!(fault, NoText::Memory));
     } else {
         assert!(rt; false, "a job is missed");
     }
@@ -282,7 +289,7 @@ fn a_trace_without_a_job_has_no_text(rt: HostRuntime) -> Result<(), Fail> {
     let ended = ended(alloc, Vec::new(alloc))?;
     assert!(rt; is_plain(&ended));
     if let Err(fault) = document_text(alloc, &ended, false) {
-        assert!(rt; fault == NoText::Limit(DocumentFault::NoJob(None)) || fault == NoText::Memory);
+        assert!(rt; is_limit(&fault, DocumentFault::NoJob(None)) || matches!(fault, NoText::Memory));
     } else {
         assert!(rt; false, "a document without a job is feasible");
     }
@@ -340,7 +347,7 @@ fn the_text_of_a_part_is_the_one_written_by_hand(rt: HostRuntime) -> Result<(), 
     let known = shown(alloc)?;
     match part(alloc, &words, &known, None) {
         Ok(text) => assert_eq!(rt; text.as_slice(), PART),
-        Err(fault) => assert_eq!(rt; fault, NoText::Memory),
+        Err(fault) => assert!(rt; matches!(fault, NoText::Memory)),
     }
     Ok(())
 }
@@ -355,7 +362,7 @@ fn a_part_of_a_processor_has_the_jobs_that_ran_there(rt: HostRuntime) -> Result<
     let known = shown(alloc)?;
     match part(alloc, &words, &known, None) {
         Ok(text) => assert_eq!(rt; text.as_slice(), PART_OF_ONE),
-        Err(fault) => assert_eq!(rt; fault, NoText::Memory),
+        Err(fault) => assert!(rt; matches!(fault, NoText::Memory)),
     }
     Ok(())
 }
@@ -367,7 +374,7 @@ fn a_part_ends_before_the_job_at_its_end(rt: HostRuntime) -> Result<(), Fail> {
     let known = shown(alloc)?;
     match part(alloc, &words, &known, Some(BEGIN + 8_000_000)) {
         Ok(text) => assert!(rt; text.ends_with(b"# 0 jobs written, 1 left out\n")),
-        Err(fault) => assert_eq!(rt; fault, NoText::Memory),
+        Err(fault) => assert!(rt; matches!(fault, NoText::Memory)),
     }
     Ok(())
 }
