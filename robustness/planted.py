@@ -96,8 +96,8 @@ MISTAKES = [
     Mistake("settled_without_apart", "yds_trace_parts/src/place.rt", (
         ("        && begin <= shown.last\n        && apart_of(asked, judged.task) <= shown.last - begin\n", "        && begin <= shown.last\n"),), "parts"),
     Mistake("an_open_job_taken_for_over", "yds_trace_parts/src/place.rt", (("        End::Open => false,\n", "        End::Open => true,\n"),), "parts"),
-    Mistake("the_last_job_unseen_taken_for_over", "yds_trace_parts/src/place.rt", (
-        ("        End::Unseen { .. } => followed,\n", "        End::Unseen { .. } => followed || !followed,\n"),), "parts"),
+    Mistake("a_job_with_a_lost_end_over_before_it_is_due", "yds_trace_parts/src/place.rt", (
+        ("        End::Lost(since) => since < last && due <= last,\n", "        End::Lost(since) => since < last,\n"),), "parts"),
     Mistake("a_place_before_a_run_is_over", "yds_trace_parts/src/place.rt", (
         ("        End::Ended(end) => Some(end),\n", "        End::Ended(end) => Some(end / 2),\n"),), "parts"),
     Mistake("a_quiet_place_before_a_closed_one", "yds_trace_parts/src/place.rt", (
@@ -180,10 +180,13 @@ MISTAKES = [
     Mistake("a_thread_seen_elsewhere_taken_for_one_that_was_there", "yds_trace/src/known.rt", (
         ("        if !torn && leaving.switched.is_none() && !self.woken.seen {\n", "        if !torn && leaving.switched.is_none() {\n"),)),
     Mistake("a_thread_that_is_back_behind_a_part_passed_over", "yds_trace/src/check.rt", (
-        ("                || comes_back(asked, counted, event, previous, next, cut)\n",
-         "                || (event.time == 0 && comes_back(asked, counted, event, previous, next, cut))\n"),), "parts"),
+        ("        || comes_back(asked, counted, event, previous, next, cut)\n",
+         "        || (event.time == 0 && comes_back(asked, counted, event, previous, next, cut))\n"),), "parts"),
     Mistake("a_thread_that_is_back_as_it_leaves_passed_over", "yds_trace/src/check.rt", (
-        ("(is_back(asked, counted, previous, cut) || ", "((event.time == 0 && is_back(asked, counted, previous, cut)) || "),), "parts"),
+        ("&& is_back(asked, counted, previous, cut))", "&& event.time == 0 && is_back(asked, counted, previous, cut))"),), "parts"),
+    Mistake("a_first_switch_behind_to_shows_no_hole", "yds_trace/src/counted.rt", (
+        ("                self.missing(!asked.begin_at_run, first, first, leaving)\n",
+         "                self.missing(!asked.begin_at_run, first, first, leaving).and(None)\n"),)),
     # Switches that are missing, periods, one speed throughout, and silence.
     Mistake("a_thread_on_two_processors_passed_over", "yds_trace/src/known.rt", (
         ("                displaced.then_some(", "                (displaced && standing.came == 0).then_some("),)),
