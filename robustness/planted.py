@@ -237,7 +237,7 @@ MISTAKES = [
     Mistake("shares_without_the_word", "yds_trace/src/share.rt", (
         ("    if asked.moved_parts && is_shared_by(", "    if is_shared_by("), ("    if !asked.moved_parts {\n        return;\n    }\n", ""))),
     Mistake("no_shares_in_a_part", "yds_trace_parts/src/processors.rt", (
-        ("    next_piece(alloc, asked, shares, may_write", "    let _ = shares;\n    next_piece(alloc, asked, shown, may_write"),), "all"),
+        ("    next_piece(alloc, asked, shares, one.cut", "    let _ = shares;\n    next_piece(alloc, asked, shown, one.cut"),), "all"),
     Mistake("no_shares_in_the_last_part", "yds_trace_parts/src/processors.rt", (
         ("    last_part(alloc, asked, shares, one.cut", "    let _ = shares;\n    last_part(alloc, asked, shown, one.cut"),), "all"),
     # Other threads.
