@@ -6,6 +6,7 @@ use Rattle.yds_trace.specs.declared.job.Stretch.{Stretch}
 use Rattle.yds_trace.specs.declared.reason.Reason.{Reason}
 use Rattle.yds_trace.specs.declared.reason.Reason.TheVariants as reasons
 use Rattle.yds_trace.specs.declared.tally.Pause.{Pause}
+use Rattle.yds_trace.specs.declared.tally.Silence.{Silence}
 use Rattle.yds_trace.specs.declared.tally.Tally.{Tally}
 use Rattle.yds_trace.specs.Asked.{Task, no_task, Asked, task_at}
 use Rattle.yds_trace.specs.Jobs.{Job}
@@ -15,7 +16,7 @@ use Rattle.yds_trace.specs.WrittenTime.{Units, written_time, runs_end}
 use Rattle.yds_trace.specs.Document.{named, is_left_out, Judged, judged, judged_of, judged_from, all_judged, began_before, jobs_of, shares_of, stands, written_end, written_name, written_runs}
 use Rattle.yds_trace_laws.proofs.Ordered.{filter-all, in_order-all, append-all, map-all}
 use Rattle.yds_trace_document.specs.Settled.{Settled, judged_by_task}
-use Rattle.yds_trace_text.specs.Text.{told, comment, nine_digits, six_digits, in_seconds, in_milliseconds, behind_point, counted, head_line, cycles, units_line, reason_text, behind_deadline, signed_time, window_text, how_late, without_runs_comment, late_kind, standing_comment, late_comment, first_begin, begin_later, end_comment, begins_comment, end_earlier, end_is_told, ends_comment, standing_comments, exited_comment, slept_comment, thread_comments, shown_comments, every_reason, is_left_out_for, first_name, last_name, Group, group_of, group_for, groups_of_task, has_jobs, groups_of, all_groups, most_first, one_left_out, some_left_out, group_comment, is_cut_off, cut_off_comment, left_out_comments, short_stretches, is_or_are, some_short, short_comment, length_of, wake_ups_of, most_woken, woken_comment, wake_up_comment, known_begins, mean_distance, distance_comment, unit_comment, deadline_comment, apart_comment, task_unit_comments, all_unit_comments, shown_byte, other_comment, left_out_text, its_or_their, late_without, without_runs_text, up_to_here, lack_comment, no_line_text, is_long, long_comment, pause_comment, tally_comments, last_line, comments_text}
+use Rattle.yds_trace_text.specs.Text.{told, comment, nine_digits, six_digits, in_seconds, in_milliseconds, behind_point, counted, head_line, cycles, units_line, reason_text, behind_deadline, signed_time, window_text, how_late, without_runs_comment, late_kind, standing_comment, late_comment, first_begin, begin_later, end_comment, begins_comment, end_earlier, end_is_told, ends_comment, standing_comments, exited_comment, slept_comment, thread_comments, shown_comments, every_reason, is_left_out_for, first_name, last_name, Group, group_of, group_for, groups_of_task, has_jobs, groups_of, all_groups, most_first, one_left_out, some_left_out, group_comment, is_cut_off, cut_off_comment, left_out_comments, short_stretches, is_or_are, some_short, short_comment, length_of, wake_ups_of, most_woken, woken_comment, wake_up_comment, known_begins, mean_distance, distance_comment, unit_comment, deadline_comment, apart_comment, lacks_period, without_period_comment, period_comment, task_unit_comments, all_unit_comments, shown_byte, other_comment, left_out_text, its_or_their, late_without, without_runs_text, up_to_here, lack_comment, no_line_text, is_long, long_comment, pause_comment, no_line_of_text, on_to_the_end, is_silent, silent_comment as silence_text, silence_comment, tally_comments, last_line, comments_text}
 use Rattle.yds_texts.proofs.Brought.{Leads, Leads-nil, Leads-append, Leads-comment}
 use Rattle.yds_trace_again.specs.Laws.{AreLabelled}
 use Rattle.yds_trace_again.proofs.Plain.{is_other, is_other_true, Plain, plain_all, plain_append, plain_told, plain_if, plain_drop, plain_decimal, name_plain}
@@ -87,6 +88,7 @@ plain_reason (Some reasons.NotEnded) = refl
 plain_reason (Some reasons.EventsLost) = refl
 plain_reason (Some reasons.SwitchMissing) = refl
 plain_reason (Some reasons.BeginUnseen) = refl
+plain_reason (Some reasons.DueBefore) = refl
 plain_reason (Some reasons.Moved) = refl
 plain_reason (Some reasons.SpeedUnknown) = refl
 
@@ -300,13 +302,28 @@ unit_silent P what label value (Some mean) first second =
     (silent_if P (nat_lt (100 * value) mean) (distance_comment what label value (codes "less than a hundredth of") mean) []
     (distance_silent P what label value (codes "less than a hundredth of") mean first second refl) (Leads-nil P))
 
+-- The comment on begins that are farther apart than a deadline is passed over.
+period_silent : (P : List Entry → Type 0) (task : Task) (number : ℕ) (mean : Option ℕ) → Plain task.label → Silent P (period_comment task number mean)
+unfolding period_comment
+period_silent P task number None plain = Leads-nil P
+period_silent P task number (Some mean) plain =
+    silent_if P (lacks_period task mean) (without_period_comment task number mean) []
+    (silent_comment P
+    (task.label ∷ codes ": " ∷ decimal number ∷ codes " begins, " ∷ in_milliseconds mean ∷ codes " ms apart in the mean, a deadline of "
+    ∷ in_milliseconds task.deadline ∷ codes " ms: a period would tell frames that fall behind" ∷ [])
+    (plain, (refl, (plain_decimal number, (refl, (plain_milliseconds mean, (refl, (plain_milliseconds task.deadline, (refl, tt)))))))))
+    (Leads-nil P)
+
 task_unit_silent : (P : List Entry → Type 0) (pair : Task × List Judged) → IsPlainTask pair → Silent P (task_unit_comments pair)
 task_unit_silent P pair plain =
-    let mean : Option ℕ = mean_distance (known_begins pair.1) in
-    silent_both P (deadline_comment pair.0 mean) (apart_comment pair.0 mean)
+    let begins : List ℕ = known_begins pair.1 in
+    let mean : Option ℕ = mean_distance begins in
+    silent_both P (deadline_comment pair.0 mean ++ apart_comment pair.0 mean) (period_comment pair.0 (length begins) mean)
+    (silent_both P (deadline_comment pair.0 mean) (apart_comment pair.0 mean)
     (unit_silent P (codes "the deadline of ") pair.0.label pair.0.deadline mean refl plain.0)
     (silent_if P (pair.0.apart == 0) [] (unit_comment (codes "APART of ") pair.0.label pair.0.apart mean) (Leads-nil P)
-    (unit_silent P (codes "APART of ") pair.0.label pair.0.apart mean refl plain.0))
+    (unit_silent P (codes "APART of ") pair.0.label pair.0.apart mean refl plain.0)))
+    (period_silent P pair.0 (length begins) mean plain.0)
 
 -- # Who else had the processor
 
@@ -358,6 +375,21 @@ pause_silent P in_parts pause =
     (plain_if in_parts (codes "up to here, no line for ") (codes "no line for ") refl refl, (plain_seconds pause.lasted, (refl, (plain_seconds pause.since, (refl, tt))))))
     (Leads-nil P)
 
+-- The comment on a processor that has no line up to the end is passed over.
+silence_silent : (P : List Entry → Type 0) (in_parts : Bool) (silence : Silence) → Silent P (silence_comment in_parts silence)
+silence_silent P in_parts silence =
+    silent_if P (is_silent silence) (silence_text in_parts silence) []
+    (silent_comment P
+    (no_line_of_text in_parts ∷ decimal silence.processor ∷ codes " for " ∷ in_seconds silence.lasted ∷ codes " s, from "
+    ∷ in_seconds silence.since ∷ on_to_the_end in_parts ∷ codes ": what it did then isn't known" ∷ []) (
+      plain_if in_parts (codes "up to here, no line of CPU ") (codes "no line of CPU ") refl refl,
+      (
+        plain_decimal silence.processor,
+        (refl, (plain_seconds silence.lasted, (refl, (plain_seconds silence.since, (plain_if in_parts (codes " s on") (codes " s on to the end") refl refl, (refl, tt)))))),
+      ),
+    ))
+    (Leads-nil P)
+
 tally_silent : (P : List Entry → Type 0) (in_parts : Bool) (tally : Tally) → Silent P (tally_comments in_parts tally)
 tally_silent P in_parts tally =
     let losses : List ℕ = lack_comment in_parts (codes "places where events were lost") tally.losses in
@@ -368,7 +400,10 @@ tally_silent P in_parts tally =
     (lack_silent P in_parts (codes "switches of other threads that are missing") tally.missing refl) in
     let three : Silent P (losses ++ missing ++ markers) =
     silent_both P (losses ++ missing) markers two (lack_silent P in_parts (codes "lines that programs wrote into the trace") tally.markers refl) in
-    silent_both P (losses ++ missing ++ markers) (pause_comment in_parts tally.pause) three (pause_silent P in_parts tally.pause)
+    let pause : List ℕ = pause_comment in_parts tally.pause in
+    let four : Silent P (losses ++ missing ++ markers ++ pause) =
+    silent_both P (losses ++ missing ++ markers) pause three (pause_silent P in_parts tally.pause) in
+    silent_both P (losses ++ missing ++ markers ++ pause) (silence_comment in_parts tally.silence) four (silence_silent P in_parts tally.silence)
 
 -- # The last line
 

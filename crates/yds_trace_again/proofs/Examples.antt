@@ -9,7 +9,7 @@ use Rattle.yds_trace.specs.declared.job.Stretch.{Stretch}
 use Rattle.yds_trace.specs.WrittenTime.{Units, Run, written_time}
 use Rattle.yds_trace.specs.Document.{named, name_in_parts, Written, Placed, document_of}
 use Rattle.yds_trace_laws.specs.Faithful.{IsRounded, IsWithinRun}
-use Rattle.yds_trace_text.specs.Text.{comment, unit_comment, job_text, ticks_text, run_text, other_comment, settled_text, text_of}
+use Rattle.yds_trace_text.specs.Text.{comment, unit_comment, period_comment, job_text, ticks_text, run_text, other_comment, settled_text, text_of}
 use Rattle.yds_trace_text.specs.PartText.{part_text}
 use Rattle.yds_trace.specs.Parts.{no_cut}
 use Rattle.yds_trace_again.specs.Again.{document_read}
@@ -64,12 +64,12 @@ its_document = refl
 
 -- The text of its document, comments and all, is read as that.
 it_is_read : reading (text_of asked lines) ≡ Ok just_this
-unfolding digits comment unit_comment
+unfolding digits comment unit_comment period_comment
 it_is_read = refl
 
 -- So is the text of its one part, with the line that says which part it is.
 its_part_is_read : reading (part_text asked lines no_cut None) ≡ Ok just_this
-unfolding digits comment unit_comment
+unfolding digits comment unit_comment period_comment
 its_part_is_read = refl
 
 -- And that of a processor on which nothing ran, as a document without a job.
@@ -77,7 +77,7 @@ abbrev asked_elsewhere : Asked
 asked_elsewhere = record asked { processor = 3; everywhere = true }
 
 empty_part_is_read : reading (part_text asked_elsewhere lines no_cut None) ≡ Ok no_document
-unfolding digits comment unit_comment
+unfolding digits comment unit_comment period_comment
 empty_part_is_read = refl
 
 -- # A job that moved
@@ -90,7 +90,7 @@ moved = reverse
 
 -- Of each processor, what it ran there is read under a name of its own.
 share_on_0 : reading (text_of (record asked { moved_parts = true }) moved) ≡ Ok (record just_this { names = codes "t.0@0" ∷ [] })
-unfolding digits comment unit_comment
+unfolding digits comment unit_comment period_comment
 share_on_0 = refl
 
 share_on_1 : reading (text_of (record asked { moved_parts = true; processor = 1 }) moved) ≡ Ok (record no_document {
@@ -98,12 +98,12 @@ share_on_1 : reading (text_of (record asked { moved_parts = true; processor = 1 
   jobs = record { release = 0; deadline = 10; work = 10 } ∷ [];
   slots = record { job = 0; from = of_whole 4; to = of_whole 6; work = of_whole 10 } ∷ [];
 })
-unfolding digits comment unit_comment
+unfolding digits comment unit_comment period_comment
 share_on_1 = refl
 
 -- Near miss: where that isn't asked for, it is left out.
 left_out_on_0 : reading (text_of asked moved) ≡ Ok no_document
-unfolding digits comment unit_comment
+unfolding digits comment unit_comment period_comment
 left_out_on_0 = refl
 
 -- # Near misses
@@ -113,7 +113,7 @@ abbrev late_units : Units
 late_units = record { zero = 2000; time = 10; speed = 1 }
 
 begun_before : reading (settled_text asked (settled_where asked lines late_units (λ one. true) [] (tally_of asked lines))) ≡ Err (record { line = 3; column = 11; reason = reasons.EmptyWindow })
-unfolding digits comment unit_comment
+unfolding digits comment unit_comment period_comment
 begun_before = refl
 
 -- So an end that is four units after a deadline is written in its unit.

@@ -6,6 +6,7 @@ use Rattle.base.specs.declared.limits.TheConstants.{MAX_JOBS, MAX_TIME, MAX_WORK
 use Rattle.yds_kernel.specs.Event.{Said}
 use Rattle.yds_trace.specs.Asked.{Task, no_task, Asked, IsAsked, task_at}
 use Rattle.yds_trace.specs.Jobs.{Job as TracedJob}
+use Rattle.yds_trace.specs.Late.{due}
 use Rattle.yds_trace.specs.WrittenTime.{Units, Run, before, work_of_run, work_of_runs}
 use Rattle.yds_trace.specs.Document.{named, name_in_parts, written_name, Judged, judged, judged_of, judged_from, all_judged, began_before, jobs_of, shares_of, stands, put_in, in_order, units_of, Written, with_runs, without_runs, written_of, Placed, placed_runs, all_runs}
 use Rattle.yds_trace_laws.specs.AsSlots.{job_read, jobs_read, slot_read, slots_read}
@@ -14,6 +15,7 @@ use Rattle.yds_trace_laws.proofs.Ordered.{filter-all, put_in-all, in_order-all, 
 use Rattle.yds_trace_laws.proofs.Runs.{IsForward, runs_forward}
 use Rattle.yds_trace_laws.proofs.Times.{lateness_is_kept}
 use Rattle.yds_trace_laws.proofs.Judging.{zero_before}
+use Rattle.yds_trace_laws.proofs.Faithful.{whole_job}
 use Rattle.yds_trace_laws.proofs.Begins.{or_none}
 use Rattle.yds_trace_document.specs.declared.fault.DocumentFault.{DocumentFault}
 use Rattle.yds_trace_document.specs.declared.fault.DocumentFault.TheVariants as faults
@@ -91,7 +93,7 @@ no_jobs (job ∷ jobs) none = absurd (omega (arith, eqb-true (length (job ∷ jo
 
 -- # What is judged
 
--- a job of one of the tasks with these numbers
+-- a job of one of the tasks with these numbers: how it is called, and that it is due a unit of time behind its begin or later, where it stands as it is
 pub record IsOfTask (asked : Asked) (low high : ℕ) (one : Judged) : Type 0 where
   number : ℕ
   not_before : low ≤ number
@@ -99,7 +101,7 @@ pub record IsOfTask (asked : Asked) (low high : ℕ) (one : Judged) : Type 0 whe
   before_first : Bool
   place : ℕ
   name_is : written_name one ≡ name_in_parts (named (task_at asked number).label before_first place) one.part
-  due_is : one.due ≡ one.job.begin + (task_at asked number).deadline
+  due_later : stands one ≡ true → one.job.begin + asked.unit ≤ one.due
 
 of_task : (asked : Asked) (past : List Said) (number : ℕ) → AllByRecursion (IsOfTask asked number (number + 1)) (judged_of asked past number)
 of_task asked past number =
@@ -111,7 +113,8 @@ of_task asked past number =
       before_first = began_before (jobs_of asked past number);
       place = numbered.0;
       name_is = refl;
-      due_is = refl;
+      due_later = λ whole.
+          ltb-false (due (task_at asked number) numbered.1) (numbered.1.begin + asked.unit) (whole_job asked past (task_at asked number) numbered.1 whole).1;
     })
 
 wider : (asked : Asked) (low less high more : ℕ) → less ≤ low → high ≤ more → (ones : List Judged) → AllByRecursion (IsOfTask asked low high) ones → AllByRecursion (IsOfTask asked less more) ones
@@ -124,7 +127,7 @@ wider asked low less high more below above (one ∷ ones) all = (
     before_first = all.0.before_first;
     place = all.0.place;
     name_is = all.0.name_is;
-    due_is = all.0.due_is;
+    due_later = all.0.due_later;
   },
   wider asked low less high more below above ones all.1,
 )
@@ -275,10 +278,10 @@ runs_are (run ∷ runs) forward ends works =
 
 -- # Jobs
 
--- a job that is judged: where it stands as it is it begins at time 0 or later, and it is due a unit of time later
+-- a job that is judged: where it stands as it is it begins at time 0 or later, and is due a unit of time later
 record IsDueLater (units : Units) (one : Judged) : Type 0 where
   zero_first : stands one ≡ true → units.zero ≤ one.job.begin
-  due_later : one.job.begin + units.time ≤ one.due
+  due_later : stands one ≡ true → one.job.begin + units.time ≤ one.due
 
 -- what is written of one
 record IsWritten (job : Written) : Type 0 where
@@ -291,7 +294,7 @@ written_is units one job positive later is = by (stands one) (is_some one.late) 
   where
     whole : stands one ≡ true → IsWritten (with_runs units one)
     whole stand = record {
-      window = lateness_is_kept units one.job.begin one.due positive (later.zero_first stand) later.due_later;
+      window = lateness_is_kept units one.job.begin one.due positive (later.zero_first stand) (later.due_later stand);
       forward = runs_forward units (reverse one.job.stretches);
       enough = omega arith;
     }
@@ -341,17 +344,20 @@ those_are_some asked past units test labelled time none_before = record {
   none_before = none_before;
 }
 
-due_later : (asked : Asked) (units : Units) (ones : List Judged) → IsAsked asked → AreSome asked units ones → All (IsDueLater units) ones
-due_later asked units ones fit some k d within =
+-- so it is of each of these jobs
+due_later : (asked : Asked) (units : Units) (ones : List Judged) → AreSome asked units ones → All (IsDueLater units) ones
+due_later asked units ones some k d within =
     let one = All-from_recursion (IsOfTask asked 0 (length asked.tasks)) ones some.of_tasks k d within in
-    let long : asked.unit ≤ (task_at asked one.number).deadline = fit.deadlines one.number no_task one.not_after in
-    record { zero_first = some.none_before k d within; due_later = omega (arith, one.due_is, long, some.time_is) }
+    record {
+      zero_first = some.none_before k d within;
+      due_later = λ stand. let long = one.due_later stand in omega (arith, long, some.time_is);
+    }
 
 all_written : (asked : Asked) (units : Units) (ones : List Judged) → IsAsked asked → AreSome asked units ones → AllByRecursion IsWritten (filter_map (written_of units) ones)
 all_written asked units ones fit some =
     filter_map-all (written_of units) (IsDueLater units) IsWritten
     (λ one job later is. written_is units one job (omega (arith, fit.has_unit, some.time_is)) later is) ones
-    (recursion_from_All (IsDueLater units) ones (due_later asked units ones fit some))
+    (recursion_from_All (IsDueLater units) ones (due_later asked units ones some))
 
 -- # The document
 

@@ -17,7 +17,7 @@ use Rattle.yds_trace_laws.proofs.Judging.{all_are_judged}
 use Rattle.yds_trace_laws.proofs.First.{none_begins_before}
 use Rattle.yds_trace_document.specs.Settled.{Settled, judged_by_task}
 use Rattle.yds_trace_document.specs.Part.{whole_zero, shift_from, shift_of, part_units, waiting_by_task, part_by_task, settled_in, part_of, part_limit_fault}
-use Rattle.yds_trace_document.specs.Limits.{missed_fault, limit_fault}
+use Rattle.yds_trace_document.specs.Limits.{late_fault, limit_fault}
 use Rattle.yds_trace_document.proofs.Sorting.{FromLow, Rises, rises_filter}
 use Rattle.yds_trace_document.proofs.Waits.{filter_both, waiting_rises}
 use Rattle.yds_trace_text.specs.PartText.{first_release, last_deadline, windows_text, processor_text, last_text, part_line}
@@ -133,7 +133,7 @@ part_limits : (asked : Asked) (strict : Bool) (cut : Cut) (units : Units) (by_ta
 part_limits asked strict cut units by_task part others tally none = by ((asked.everywhere || nat_lt 0 cut.parts) && (length (document_in units part).jobs == 0)) refl none
   where
     by : (b : Bool) → ((asked.everywhere || nat_lt 0 cut.parts) && (length (document_in units part).jobs == 0)) ≡ b →
-        (if b then (if strict then missed_fault part else None) else limit_fault strict (settled_in units by_task part others tally)) ≡ None →
+        (if b then late_fault strict part else limit_fault strict (settled_in units by_task part others tally)) ≡ None →
         PassesLimits (document_in units part).jobs (document_in units part).runs
     by true is none =
         no_jobs (document_in units part).jobs (and_parts (asked.everywhere || nat_lt 0 cut.parts) (length (document_in units part).jobs == 0) is).1

@@ -1,13 +1,13 @@
 -- Faults of a trace: the number of the line, and why.
-use Rattle.base.proofs.Common.{◌≡◌, ℕ, List, [], ◌∷◌, codes, reverse, true, Option, Some, None, refl}
+use Rattle.base.proofs.Common.{◌≡◌, ℕ, List, [], ◌∷◌, ◌++◌, codes, reverse, true, Option, Some, None, refl}
 use Rattle.yds_kernel.specs.declared.state.State.TheVariants as states
 use Rattle.yds_kernel.specs.declared.loss.Since.TheVariants as since
 use Rattle.yds_kernel.specs.Event.{Thread, Loss, Speed, Switch, WakeUp, Said, Lost, Nothing}
 use Rattle.yds_trace.specs.declared.fault.Cause.{Cause}
 use Rattle.yds_trace.specs.declared.fault.Cause.TheVariants as causes
 use Rattle.yds_trace.specs.Asked.{Numbered, Fixed, Asked}
-use Rattle.yds_trace.specs.Faults.{first_fault, trace_fault, touched, touched_fault}
-use Rattle.yds_trace_examples.proofs.Lines.{t, other, idle, line, woken, comes, sleeps, exits, other_leaves, speed, marker, lost, task, asked, at_run, up_to, from}
+use Rattle.yds_trace.specs.Faults.{first_fault, trace_fault, missing_at, touched, touched_fault}
+use Rattle.yds_trace_examples.proofs.Lines.{t, other, idle, line, woken, comes, sleeps, exits, gives_way, other_comes, other_leaves, speed, marker, lost, task, asked, at_run, up_to, from}
 
 abbrev fault : Asked → List Said → Option (ℕ × Cause)
 fault asked lines = first_fault asked (reverse lines)
@@ -171,6 +171,27 @@ missing_after_to = refl
 
 missing_at_from : fault (from 30) (woken 10 ∷ comes 0 12 ∷ other_leaves 0 30 ∷ []) ≡ None
 missing_at_from = refl
+
+-- It has slept on processor 0 when it leaves 1, by the first switch of that one, behind `to`: it had 1 until then, and came there unseen, since the first
+-- line of 1, at 5.
+abbrev until_to : List Said
+until_to = line 1 5 (WakeUp other true) ∷ woken 10 ∷ comes 0 20 ∷ sleeps 0 50 ∷ other_comes 0 120 ∷ []
+
+had_it_until_to : fault (up_to 100) (until_to ++ sleeps 1 150 ∷ []) ≡ Some (6, causes.LineMissing)
+had_it_until_to = refl
+
+since_its_first_line : missing_at (up_to 100) (reverse until_to) (record { processor = 1; time = 150; happening = Switch t states.Sleeps idle }) ≡ Some 5
+since_its_first_line = refl
+
+-- Near misses: another thread leaves there; processor 1 has switched before; and it was awake, so its coming alone is missing.
+another_had_it : fault (up_to 100) (until_to ++ other_leaves 1 150 ∷ []) ≡ None
+another_had_it = refl
+
+switched_before : fault (up_to 100) (line 1 4 (Switch other states.Sleeps idle) ∷ until_to ++ sleeps 1 150 ∷ []) ≡ None
+switched_before = refl
+
+was_awake : fault (up_to 100) (line 1 5 (WakeUp other true) ∷ woken 10 ∷ comes 0 20 ∷ gives_way 0 50 ∷ other_comes 0 120 ∷ sleeps 1 150 ∷ []) ≡ None
+was_awake = refl
 
 -- # Speeds
 

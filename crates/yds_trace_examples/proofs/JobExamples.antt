@@ -7,7 +7,7 @@ use Rattle.yds_trace.specs.declared.job.End.TheVariants as ends
 use Rattle.yds_trace.specs.Asked.{Asked}
 use Rattle.yds_trace.specs.Jobs.{Job}
 use Rattle.yds_trace.specs.Document.{jobs_of}
-use Rattle.yds_trace_examples.proofs.Lines.{t, other, idle, line, woken, is_awake, comes, sleeps, exits, preempted, back, other_leaves, speed, marker, lost, asked, with_apart, with_period, at_run, up_to, stretch, job, begun_by}
+use Rattle.yds_trace_examples.proofs.Lines.{t, other, idle, line, woken, is_awake, comes, sleeps, exits, preempted, back, other_comes, other_leaves, speed, marker, lost, asked, with_apart, with_period, at_run, up_to, stretch, job, begun_by}
 
 -- the task's jobs by these lines, which stand in order of time
 abbrev jobs : Asked → List Said → List Job
@@ -202,6 +202,17 @@ left_elsewhere = refl
 missing_of_others : jobs asked (woken 10 ∷ comes 0 12 ∷ other_leaves 1 20 ∷ other_leaves 1 30 ∷ sleeps 0 40 ∷ []) ≡
     job 10 (ends.Ended 40) (stretch 0 12 40 ∷ []) ∷ []
 missing_of_others = refl
+
+-- It has slept on processor 0 when it leaves 1, by the first switch of that one, behind `to`: it had 1 until then, and came there unseen. What is missing
+-- was lost since the first line of 1, at 5, and its job that ended behind that has no known end.
+there_until_to : jobs (record (up_to 100) { cut_losses = true }) (line 1 5 (WakeUp other true) ∷ woken 10 ∷ comes 0 20 ∷ sleeps 0 50 ∷ other_comes 0 120 ∷ sleeps 1 150 ∷ []) ≡
+    job 10 (ends.Lost 5) (stretch 0 20 50 ∷ []) ∷ record (begun_by 100 ends.Open (stretch 1 100 100 ∷ [])) { switch_missing = true } ∷ []
+there_until_to = refl
+
+-- Near miss: another thread leaves there.
+another_there_until_to : jobs (record (up_to 100) { cut_losses = true }) (line 1 5 (WakeUp other true) ∷ woken 10 ∷ comes 0 20 ∷ sleeps 0 50 ∷ other_comes 0 120 ∷ other_leaves 1 150 ∷ []) ≡
+    job 10 (ends.Ended 50) (stretch 0 20 50 ∷ []) ∷ []
+another_there_until_to = refl
 
 -- A state that the kernel doesn't have is no end: nothing is known of it after that.
 a_strange_state : jobs asked (woken 10 ∷ comes 0 12 ∷ line 0 40 (Switch t states.Unknown idle) ∷ []) ≡

@@ -2,11 +2,13 @@
 use Rattle.base.proofs.Common.{◌≡◌, ℕ, ◌<◌, ◌≤◌, length, List, [], ◌∷◌, map, filter, list_any, codes, reverse, Bool, true, false, Option, Some, None, refl}
 use Rattle.std.proofs.lemmas.Bool.{lt-ltb, le-ltb}
 use Rattle.yds_kernel.specs.Event.{WakeUp, Said}
+use Rattle.yds_trace.specs.declared.fault.Cause.{Cause}
+use Rattle.yds_trace.specs.declared.fault.Cause.TheVariants as causes
 use Rattle.yds_trace.specs.Asked.{Named, Task, Asked}
 use Rattle.yds_trace.specs.Document.{Judged, all_judged}
 use Rattle.yds_trace.specs.Others.{Span}
-use Rattle.yds_trace.specs.Parts.{belongs, waiting_from, is_settled, place_among, is_much}
-use Rattle.yds_trace_examples.proofs.Lines.{other, line, woken, comes, sleeps, preempted, gives_way, marker, task, asked, of_each, in_shares}
+use Rattle.yds_trace.specs.Parts.{belongs, waiting_from, is_settled, place_among, is_much, no_cut, cut_at, part_fault}
+use Rattle.yds_trace_examples.proofs.Lines.{other, line, woken, comes, sleeps, preempted, gives_way, other_leaves, marker, task, asked, up_to, of_each, in_shares}
 
 -- # Which documents have a job
 
@@ -125,6 +127,27 @@ left_out_alone = refl
 -- Near miss: where each processor has what it ran there, it is one of their own.
 its_share : place (record (both_tasks 0) { everywhere = true; moved_parts = true }) left_out_first ≡ Some 1200
 its_share = refl
+
+-- # A first switch behind `to`
+
+-- The part with the job of 1000 is written behind the line at 1240, and what is asked for ends at 1300.
+abbrev as_written : List Said
+as_written = woken 1000 ∷ comes 0 1020 ∷ sleeps 0 1040 ∷ woken 1200 ∷ marker 1 1210 ∷ comes 0 1220 ∷ sleeps 0 1240 ∷ []
+
+abbrev behind_to : Said → Option Cause
+behind_to said = part_fault (up_to 1300) (reverse as_written) (cut_at (up_to 1300) (reverse as_written) no_cut (Some 1200)) said
+
+-- `t` has slept on 0 when it leaves 1, by the first switch of that one: it had 1 until 1300, and came there unseen, since the first line of 1, at 1210. So a
+-- switch may be missing before the part was written.
+had_it_until_to : behind_to (sleeps 1 1350) ≡ Some causes.PartWritten
+had_it_until_to = refl
+
+-- Near misses: another thread leaves there; and 2 has no line before it.
+another_had_it : behind_to (other_leaves 1 1350) ≡ None
+another_had_it = refl
+
+without_a_line : behind_to (sleeps 2 1350) ≡ None
+without_a_line = refl
 
 -- # When a part is written
 

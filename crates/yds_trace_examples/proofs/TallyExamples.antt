@@ -9,7 +9,7 @@ use Rattle.yds_trace.specs.declared.tally.Tally.{Tally}
 use Rattle.yds_trace.specs.Asked.{Asked}
 use Rattle.yds_trace.specs.Tally.{losses, missing_switches, markers, longest_pause, no_silence, silence, tally_of}
 use Rattle.yds_trace_text.specs.Text.{comment, unit_comment, period_comment, silence_comment, tally_comments, text_of}
-use Rattle.yds_trace_examples.proofs.Lines.{t, other, idle, line, woken, comes, sleeps, preempted, other_comes, other_leaves, speed, marker, lost, asked, up_to, from}
+use Rattle.yds_trace_examples.proofs.Lines.{other, idle, line, woken, comes, sleeps, preempted, other_comes, other_leaves, speed, marker, lost, asked, up_to, from}
 
 -- # Places where events were lost
 
