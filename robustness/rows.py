@@ -48,7 +48,7 @@ def trace_of(row: Path, words: List[str]) -> Optional[bytes]:
 def answer_of(row: Path) -> Optional[Answer]:
     """What the second reading says of a row; None where it is none of its matter."""
     words = (row / "args").read_text(encoding="utf-8").splitlines()
-    trace = None if any("?" in word for word in words) else trace_of(row, words)
+    trace = None if "?" in words else trace_of(row, words)
     if trace is None:
         return None
     said = told(words, trace)
