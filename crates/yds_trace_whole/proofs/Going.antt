@@ -795,10 +795,6 @@ module _ (boundary now : ℕ) (all : List Told) where
       from None = is
       from (Some standing) = other standing (left || came) mine
 
-  either_true : (b : Bool) → (b || true) ≡ true
-  either_true true = refl
-  either_true false = refl
-
   -- What a thread that is there, and wasn't seen to come, slept in: a wake-up was started before it.
   called_back : (wakes : Bool) (leaving : Leaving) (known : Known) → is_there wakes leaving known ≡ true → wakes ≡ true → leaving.renamed ≡ false →
       (is_none leaving.switched && not known.woken.seen) ≡ false → ((at : ℕ) → known.woken.started ≡ Some at → IsBack boundary known.woken known.jobs) →
