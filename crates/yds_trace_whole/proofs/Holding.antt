@@ -16,7 +16,7 @@ use Rattle.yds_trace.specs.declared.job.Leaving.{Leaving}
 use Rattle.yds_trace.specs.Asked.{Asked, task_at, task_of, pace_of, is_number, is_of, is_before_to, is_within_to}
 use Rattle.yds_trace.specs.Past.{last_time, lost_since, is_loss, is_switch, last_switch, lines_since, has_switched, counts, is_first_switch, stayed, up_to_time, up_to, speed_after}
 use Rattle.yds_trace.specs.Jobs.{Job, Known, missing_of, leaving_at, after_event, all_known, known_after}
-use Rattle.yds_trace.specs.Late.{last_asked}
+use Rattle.yds_trace.specs.Late.{last_asked, due}
 use Rattle.yds_trace.specs.Faults.{missing_at, missing_in, missing_stayed}
 use Rattle.yds_trace.specs.Parts.{reaches_back, was_there_before, has_ended, last_begin, sleeps_before, woken_before, wakes_at, leaves_at, is_known_so, came_before, came_back, reaches_back_so, changes_parts, part_fault}
 use Rattle.yds_trace.proofs.UpTo.{up_to_lost}
@@ -30,17 +30,19 @@ use Rattle.yds_trace_whole.proofs.Missing.{missing_by, none_there, at_run_none}
 -- # What holds
 
 -- The end of a job of a part that was decided at this time, behind lines up to `last`, of which those up to `now` count: no line changes it any more.
-abbrev pub IsFirmEnd : ℕ → ℕ → ℕ → ℕ → End → Type 0
-IsFirmEnd now decided last ripe ends.Open = ⊥
-IsFirmEnd now decided last ripe (ends.Ended end) = (end ≤ decided) × (ripe ≤ last)
-IsFirmEnd now decided last ripe (ends.Lost since) = (since ≤ decided) × (since < now)
+-- Where events were lost, its deadline is over.
+abbrev pub IsFirmEnd : ℕ → ℕ → ℕ → ℕ → ℕ → End → Type 0
+IsFirmEnd now decided last ripe deadline ends.Open = ⊥
+IsFirmEnd now decided last ripe deadline (ends.Ended end) = (end ≤ decided) × (ripe ≤ last)
+IsFirmEnd now decided last ripe deadline (ends.Lost since) = (since ≤ decided) × (since < now) × (deadline ≤ now)
 
 -- from when on no wake-up goes on with the job
 abbrev pub ripe_from : Asked → ℕ → Job → ℕ
 ripe_from asked number job = beyond asked.to (job.begin + (task_at asked number).apart)
 
 abbrev pub IsFirm : Asked → List Said → ℕ → ℕ → Job → Type 0
-IsFirm asked past decided number job = IsFirmEnd (last_asked asked past) decided (last_time past) (ripe_from asked number job) job.end
+IsFirm asked past decided number job =
+    IsFirmEnd (last_asked asked past) decided (last_time past) (ripe_from asked number job) (due (task_at asked number) job) job.end
 
 abbrev pub counted : Asked → List Said → ℕ → Known
 counted asked past number = known_after asked number (up_to asked.to past)
@@ -79,16 +81,18 @@ pub now_goes_on : (asked : Asked) (said : Said) (past : List Said) → GoesOn as
 now_goes_on asked said past goes =
     omega (arith, until_goes_on asked.to (last_time past) (last_time (said ∷ past)) (goes_to asked.to said past goes), now_is asked past, now_is asked (said ∷ past))
 
-firm_end : (now later decided last next ripe : ℕ) (end : End) → now ≤ later → (ripe ≤ last → ripe ≤ next) → IsFirmEnd now decided last ripe end → IsFirmEnd later decided next ripe end
-firm_end now later decided last next ripe ends.Open on goes firm = firm
-firm_end now later decided last next ripe (ends.Ended end) on goes firm = (firm.0, goes firm.1)
-firm_end now later decided last next ripe (ends.Lost since) on goes firm = (firm.0, omega (arith, firm.1, on))
+firm_end : (now later decided last next ripe deadline : ℕ) (end : End) → now ≤ later → (ripe ≤ last → ripe ≤ next) → IsFirmEnd now decided last ripe deadline end →
+    IsFirmEnd later decided next ripe deadline end
+firm_end now later decided last next ripe deadline ends.Open on goes firm = firm
+firm_end now later decided last next ripe deadline (ends.Ended end) on goes firm = (firm.0, goes firm.1)
+firm_end now later decided last next ripe deadline (ends.Lost since) on goes firm = (firm.0, omega (arith, firm.1, on), omega (arith, firm.2, on))
 
 -- What is firm stays firm.
 firm_goes_on : (asked : Asked) (said : Said) (past : List Said) (decided number : ℕ) → GoesOn asked.to (said ∷ past) → (job : Job) →
     IsFirm asked past decided number job → IsFirm asked (said ∷ past) decided number job
 firm_goes_on asked said past decided number goes job =
-    firm_end (last_asked asked past) (last_asked asked (said ∷ past)) decided (last_time past) (last_time (said ∷ past)) (ripe_from asked number job) job.end
+    firm_end (last_asked asked past) (last_asked asked (said ∷ past)) decided (last_time past) (last_time (said ∷ past)) (ripe_from asked number job)
+    (due (task_at asked number) job) job.end
     (now_goes_on asked said past goes)
     (beyond_goes_on asked.to (last_time past) (last_time (said ∷ past)) (job.begin + (task_at asked number).apart) (goes_to asked.to said past goes))
 
@@ -367,17 +371,18 @@ keeps_later boundary now later all known on keeps =
     by None stands = tt
     by (Some standing) stands = (stands.0, stands.1, stands.2, omega (arith, on, stands.3))
 
-known_end : (now decided last ripe since : ℕ) (end : End) → decided ≤ since → IsFirmEnd now decided last ripe end → IsKnownBy since end
-known_end now decided last ripe since ends.Open back firm = firm
-known_end now decided last ripe since (ends.Ended end) back firm = omega (arith, back, firm.0)
-known_end now decided last ripe since (ends.Lost last_seen) back firm = omega (arith, back, firm.0)
+known_end : (now decided last ripe deadline since : ℕ) (end : End) → decided ≤ since → IsFirmEnd now decided last ripe deadline end → IsKnownBy since end
+known_end now decided last ripe deadline since ends.Open back firm = firm
+known_end now decided last ripe deadline since (ends.Ended end) back firm = omega (arith, back, firm.0)
+known_end now decided last ripe deadline since (ends.Lost last_seen) back firm = omega (arith, back, firm.0)
 
 -- A loss since a time from when on the parts were decided: all ends are known.
 ends_known : (asked : Asked) (past : List Said) (cut : Cut) (number since : ℕ) → cut.decided ≤ since → Holds asked past cut number →
     Each (λ job. IsKnownBy since job.end) cut.boundary (counted asked past number).jobs
 ends_known asked past cut number since back holds =
     all_weaker (λ (job : Job). job.begin < cut.boundary → IsFirm asked past cut.decided number job) (λ (job : Job). job.begin < cut.boundary → IsKnownBy since job.end)
-    (λ job firm early. known_end (last_asked asked past) cut.decided (last_time past) (ripe_from asked number job) since job.end back (firm early))
+    (λ job firm early.
+    known_end (last_asked asked past) cut.decided (last_time past) (ripe_from asked number job) (due (task_at asked number) job) since job.end back (firm early))
     (counted asked past number).jobs holds.firm
 
 -- The last job, where it is of a part, is ripe by the time of the next event.
@@ -385,17 +390,18 @@ last_ripe : (asked : Asked) (past : List Said) (cut : Cut) (number time : ℕ) �
     IsRipe cut.boundary (task_at asked number).apart time (counted asked past number).jobs
 last_ripe asked past cut number time on before holds = by (counted asked past number).jobs holds.firm
   where
-    ended : (until_then : ℕ) (end : End) → IsFirmEnd (last_asked asked past) cut.decided (last_time past) (beyond asked.to until_then) end → IsRipeEnd until_then time end
-    ended until_then ends.Open firm = tt
-    ended until_then (ends.Ended end) firm = beyond_reached asked.to until_then time before (omega (arith, on, firm.1))
-    ended until_then (ends.Lost since) firm = tt
+    ended : (until_then deadline : ℕ) (end : End) → IsFirmEnd (last_asked asked past) cut.decided (last_time past) (beyond asked.to until_then) deadline end →
+        IsRipeEnd until_then time end
+    ended until_then deadline ends.Open firm = tt
+    ended until_then deadline (ends.Ended end) firm = beyond_reached asked.to until_then time before (omega (arith, on, firm.1))
+    ended until_then deadline (ends.Lost since) firm = tt
 
     by : (jobs : List Job) → Each (IsFirm asked past cut.decided number) cut.boundary jobs → IsRipe cut.boundary (task_at asked number).apart time jobs
     by [] firm = tt
     by (job ∷ jobs) firm = which (cases_lt job.begin cut.boundary)
       where
         which : (job.begin < cut.boundary) ⊎ (cut.boundary ≤ job.begin) → IsRipe cut.boundary (task_at asked number).apart time (job ∷ jobs)
-        which (inl early) = inr (ended (job.begin + (task_at asked number).apart) job.end (firm.0 early))
+        which (inl early) = inr (ended (job.begin + (task_at asked number).apart) (due (task_at asked number) job) job.end (firm.0 early))
         which (inr late) = inl late
 
 module _ (asked : Asked) (past : List Said) (cut : Cut) (number : ℕ) (within : number < length asked.tasks) (begun : cut.boundary ≤ last_asked asked past)

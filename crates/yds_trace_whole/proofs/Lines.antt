@@ -58,7 +58,7 @@ earlier None one time within before = refl
 earlier (Some to) one time within before = le-leb one to (omega (arith, within, leb-true time to before))
 
 -- No time of these lines is after the last one, as far as that isn't after `to`.
-first_by : (to : Option ℕ) (past : List Said) (here time : ℕ) → GoesOn to past → last_time past ≤ time → here ≤ time → is_before_to to time ≡ true →
+pub first_by : (to : Option ℕ) (past : List Said) (here time : ℕ) → GoesOn to past → last_time past ≤ time → here ≤ time → is_before_to to time ≡ true →
     first_time here past ≤ time
 first_by to [] here time goes last within before = within
 first_by to (Stamped event ∷ past) here time goes last within before =
@@ -130,7 +130,7 @@ no_stamp past time none = by (first_stamp past) none
     by None none = cc none
     by (Some first) none = cc none
 
-none_stamped : (to : ℕ) (past : List Said) → first_stamp past ≡ None → first_stamp (up_to_time to past) ≡ None
+pub none_stamped : (to : ℕ) (past : List Said) → first_stamp past ≡ None → first_stamp (up_to_time to past) ≡ None
 none_stamped to [] none = refl
 none_stamped to (Stamped event ∷ past) none = absurd (no_stamp past event.time none)
 none_stamped to (Lost processor reach ∷ past) none =
