@@ -323,7 +323,7 @@ at_start : (asked : Asked) → Together asked [] no_cut []
 at_start asked =
     let nothing : [] ≡ own_before asked [] 0 = own_nothing asked [] in
     record {
-      stands = record { holds = λ number within. at_first asked number; begun = omega arith; same = nothing };
+      stands = record { holds = λ number within. at_first asked number; begun = omega arith; decided = omega arith; same = nothing };
       joined = subst (λ (l : List Judged). Joined (whole_units asked []) l []) nothing (record { jobs = refl; runs = refl; many = refl });
       early = subst (λ (l : List Judged). HaveRuns (λ run. run.from ≤ written_time (whole_units asked []) 0) (filter_map (written_of (whole_units asked [])) l)) nothing tt;
       none = λ is. (refl, refl);
