@@ -1,5 +1,5 @@
 -- What an event does to the jobs that are told: nothing, where these are settled. And what is known of each job's times stays so.
-use Rattle.yds_model.proofs.Common.{◌≡◌, ◌∙◌, ℕ, ◌+◌, ◌<◌, ◌≤◌, ◌⊎◌, inl, inr, ◌==◌, ◌&&◌, List, [], ◌∷◌, map, min, Bool, true, false, not, nat_lt, if◌then◌else◌, Option, Some, None, is_none, refl, sym, ap, subst, arith, ltb-true, le-ltb, le_refl, eqb-true, and_parts, length, cond_both, not-true, unwrap_or, ◌||◌, is_some, ltb-false, false≢true}
+use Rattle.yds_model.proofs.Common.{◌≡◌, ◌∙◌, ℕ, ◌+◌, ◌<◌, ◌≤◌, ◌⊎◌, inl, inr, ◌==◌, ◌&&◌, List, [], ◌∷◌, map, min, Bool, true, false, not, nat_lt, if◌then◌else◌, Option, Some, None, is_none, refl, sym, ap, subst, arith, ltb-true, le-ltb, le_refl, eqb-true, and_parts, length, cond_both, not-true, unwrap_or, ◌||◌, is_some, ltb-false, false≢true, true≢false}
 use Rattle.std.specs.List.{AllByRecursion}
 use Rattle.yds_kernel.specs.declared.state.State.{State}
 use Rattle.yds_kernel.specs.declared.state.State.TheVariants as states
@@ -34,10 +34,15 @@ IsSpan from to stretch = (from ≤ stretch.from) × (stretch.from ≤ stretch.to
 abbrev pub AreSpans : ℕ → ℕ → List Stretch → Type 0
 AreSpans from to stretches = AllByRecursion (IsSpan from to) stretches
 
+-- Where a job's begin isn't known, its deadline counts from no earlier time.
+abbrev pub IsDueOn : Job → Type 0
+IsDueOn job = job.begin_known ≡ false → job.begin ≤ job.due_from
+
 -- And its stretches lie between its begin and its end, and so does its first sleep from which it went on.
 abbrev pub IsSound : ℕ → Job → Type 0
 IsSound now job =
     (job.begin ≤ now) × IsSoundEnd now job.end × (job.begin ≤ latest now job.end) × AreSpans job.begin (latest now job.end) job.stretches × (unwrap_or job.slept 0 ≤ now)
+    × IsDueOn job
 
 abbrev pub AreSound : ℕ → List Job → Type 0
 AreSound now jobs = AllByRecursion (IsSound now) jobs
@@ -65,7 +70,7 @@ wider from to more stretches on spans =
 other_end : (now : ℕ) (job : Job) (end : End) → IsSound now job → IsSoundEnd now end → now ≤ latest now end → IsSound now (record job { end = end })
 other_end now job end sound now_sound on =
     let most : latest now job.end ≤ now = latest_by now job.end sound.1 in
-    (sound.0, now_sound, omega (arith, sound.0, on), wider job.begin (latest now job.end) (latest now end) job.stretches (omega (arith, most, on)) sound.3, sound.4)
+    (sound.0, now_sound, omega (arith, sound.0, on), wider job.begin (latest now job.end) (latest now end) job.stretches (omega (arith, most, on)) sound.3, sound.4, sound.5)
 
 pub later_sound : (now later : ℕ) (jobs : List Job) → now ≤ later → AreSound now jobs → AreSound later jobs
 later_sound now later jobs on sound =
@@ -75,6 +80,7 @@ later_sound now later jobs on sound =
       omega (arith, is.2, latest_later now later job.end on),
       wider job.begin (latest now job.end) (latest later job.end) job.stretches (latest_later now later job.end on) is.3,
       omega (arith, on, is.4),
+      is.5,
     )) jobs sound
 
 -- a job of which nothing more is known from its first sleep without a wake-up on
@@ -356,7 +362,7 @@ module _ (boundary now : ℕ) (all : List Told) where
       let whole : now ≡ latest now job.end = subst (λ (end : End). now ≡ latest now end) (sym going.last_open) refl in
       record {
         told = changed_told boundary job (ran stretch job) jobs going.free going.free ∙ going.told;
-        sound = ((going.sound.0.0, going.sound.0.1, going.sound.0.2, ((from, forward, omega (arith, by, whole)), going.sound.0.3), going.sound.0.4), going.sound.1);
+        sound = ((going.sound.0.0, going.sound.0.1, going.sound.0.2, ((from, forward, omega (arith, by, whole)), going.sound.0.3), going.sound.0.4, going.sound.0.5), going.sound.1);
         free = going.free;
       }
 
@@ -364,14 +370,14 @@ module _ (boundary now : ℕ) (all : List Told) where
   missing_going =
       changed_going missing (λ job late sound last_open. (late, sound, last_open))
 
-  first_going : (time due_from : ℕ) (certain : Bool) (jobs : List Job) → boundary ≤ time → time ≤ now → told boundary jobs ≡ all → AreSound now jobs →
-      Going boundary now all (new_job time due_from certain ∷ jobs)
-  first_going time due_from certain jobs late by is sound =
-      record { told = new_told boundary (new_job time due_from certain) jobs late ∙ is; sound = ((by, tt, by, tt, omega arith), sound); free = late; last_open = refl }
+  first_going : (time due_from : ℕ) (certain : Bool) (jobs : List Job) → (certain ≡ false → time ≤ due_from) → boundary ≤ time → time ≤ now → told boundary jobs ≡ all →
+      AreSound now jobs → Going boundary now all (new_job time due_from certain ∷ jobs)
+  first_going time due_from certain jobs due late by is sound =
+      record { told = new_told boundary (new_job time due_from certain) jobs late ∙ is; sound = ((by, tt, by, tt, omega arith, due), sound); free = late; last_open = refl }
 
   new_going : (time : ℕ) (certain : Bool) (jobs : List Job) → boundary ≤ time → time ≤ now → told boundary jobs ≡ all → AreSound now jobs →
       Going boundary now all (began time certain jobs)
-  new_going time certain jobs late by is sound = first_going time time certain jobs late by is sound
+  new_going time certain jobs late by is sound = first_going time time certain jobs (λ unknown. le_refl time) late by is sound
 
   reopened_going : (job : Job) (jobs : List Job) → boundary ≤ job.begin → told boundary (job ∷ jobs) ≡ all → AreSound now (job ∷ jobs) →
       Going boundary now all (reopened job ∷ jobs)
@@ -411,7 +417,7 @@ module _ (boundary now : ℕ) (all : List Told) where
       which true soon = unknown job.begin_known refl begun
       which false soon =
           let over : job.begin + pace.apart ≤ at = ltb-false at (job.begin + pace.apart) soon in
-          first_going at (due_behind pace.period at job) true (job ∷ jobs) (omega (arith, free, over)) by is sound
+          first_going at (due_behind pace.period at job) true (job ∷ jobs) (λ unknown. absurd (true≢false unknown)) (omega (arith, free, over)) by is sound
 
   counted_going : (again : Bool) (job : Job) (jobs : List Job) → Going boundary now all (job ∷ jobs) → Going boundary now all (counted again job ∷ jobs)
   counted_going true job jobs going = going
@@ -432,7 +438,7 @@ module _ (boundary now : ℕ) (all : List Told) where
         which true soon =
             either (Going boundary now all) job.begin_known (reopened job ∷ jobs) (began time false (job ∷ jobs))
             (reopened_going job jobs (free (ltb-true time (job.begin + pace.apart) soon) ripe) is sound) (new_going time false (job ∷ jobs) late by is sound)
-        which false soon = first_going time (due_behind pace.period time job) true (job ∷ jobs) late by is sound
+        which false soon = first_going time (due_behind pace.period time job) true (job ∷ jobs) (λ unknown. absurd (true≢false unknown)) late by is sound
 
     over : (pace : Pace) (job : Job) (end : ℕ) → job.end ≡ ends.Ended end → (boundary ≤ job.begin) ⊎ IsRipeEnd (job.begin + pace.apart) time job.end →
         (boundary ≤ job.begin) ⊎ (job.begin + pace.apart ≤ time)
@@ -497,6 +503,7 @@ module _ (boundary now : ℕ) (all : List Told) where
                   all_weaker (IsSpan job.begin (latest now job.end)) (IsSpan time (latest now job.end)) (λ stretch is. (omega (arith, before, is.0), is.1, is.2)) job.stretches
                       going.sound.0.3,
                   going.sound.0.4,
+                  λ unknown. le_refl time,
                 ),
                 going.sound.1,
               );
@@ -522,7 +529,7 @@ module _ (boundary now : ℕ) (all : List Told) where
         let before : end ≤ now = subst (IsSoundEnd now) is_ended sound.0.1 in
         record {
           told = changed_told boundary job (went_on end job) jobs free free ∙ is;
-          sound = ((sound.0.0, tt, sound.0.0, wider job.begin (latest now job.end) now job.stretches most sound.0.3, before), sound.1);
+          sound = ((sound.0.0, tt, sound.0.0, wider job.begin (latest now job.end) now job.stretches most sound.0.3, before, sound.0.5), sound.1);
           free = free;
           last_open = refl;
         }
@@ -794,10 +801,6 @@ module _ (boundary now : ℕ) (all : List Told) where
       ] in P after)
       from None = is
       from (Some standing) = other standing (left || came) mine
-
-  either_true : (b : Bool) → (b || true) ≡ true
-  either_true true = refl
-  either_true false = refl
 
   -- What a thread that is there, and wasn't seen to come, slept in: a wake-up was started before it.
   called_back : (wakes : Bool) (leaving : Leaving) (known : Known) → is_there wakes leaving known ≡ true → wakes ≡ true → leaving.renamed ≡ false →

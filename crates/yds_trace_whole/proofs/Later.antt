@@ -1,5 +1,5 @@
 -- A job and its runs in the units of a part are those in the units of the whole, so many units later.
-use Rattle.yds_model.proofs.Common.{◌≡◌, ◌∙◌, ℕ, ◌+◌, ◌-◌, ◌*◌, ◌/◌, ◌≤◌, ◌⊎◌, inl, inr, ◌==◌, ◌&&◌, ◌||◌, List, [], ◌∷◌, map, reverse, max, Bool, true, false, not, nat_lt, nat_le, if◌then◌else◌, Option, Some, None, is_some, option_map, unwrap_or, refl, sym, ap, ap₂, arith, nat_tests, sum_by-cons, filter_map}
+use Rattle.yds_model.proofs.Common.{◌≡◌, ◌∙◌, ℕ, ◌+◌, ◌-◌, ◌*◌, ◌/◌, ◌<◌, ◌≤◌, ◌⊎◌, inl, inr, ◌==◌, ◌&&◌, ◌||◌, List, [], ◌∷◌, map, reverse, max, Bool, true, false, not, nat_lt, nat_le, if◌then◌else◌, Option, Some, None, is_some, option_map, unwrap_or, refl, sym, ap, ap₂, arith, cases_lt, nat_tests, sum_by-cons, filter_map}
 use Rattle.std.specs.List.{AllByRecursion, cons_option}
 use Rattle.yds_trace.specs.declared.job.End.{End}
 use Rattle.yds_trace.specs.declared.job.End.TheVariants as ends
@@ -27,6 +27,7 @@ eq_later a b n = grind (arith, nat_tests)
 -- From this time on, what is written in these units is written so many units later in those.
 pub record AreLater (units whole : Units) (shift low : ℕ) : Type 0 where
   pub times : (time : ℕ) → low ≤ time → written_time whole time ≡ written_time units time + shift
+  pub order : (time other : ℕ) → time ≤ other → (written_time units time ≤ written_time units other) × (written_time whole time ≤ written_time whole other)
   pub speed : whole.speed ≡ units.speed
 
 -- # Runs
@@ -98,11 +99,12 @@ time_if b time = if b then time else 0
 abbrev one_if : Bool → ℕ
 one_if b = if b then 1 else 0
 
--- What is known of a judged job's times: from `low` on, and its deadline comes at least a unit later.
+-- What is known of a judged job's times: from `low` on. So is its deadline where it stands, or its begin isn't known: and then that comes a unit
+-- later, or nothing is taken off.
 pub record IsTimed (units : Units) (shift low : ℕ) (one : Judged) : Type 0 where
   pub begin : low ≤ one.job.begin
-  pub due : low ≤ one.due
-  pub window : (shift ≡ 0) ⊎ (1 ≤ written_time units one.due)
+  pub due : stands one ≡ true → low ≤ one.due
+  pub window : one.job.begin_known ≡ false → (low ≤ one.due) × ((shift ≡ 0) ⊎ (1 ≤ written_time units one.due))
   pub end : (time : ℕ) → one.job.end ≡ ends.Ended time → low ≤ time
   pub stretches : AllByRecursion (IsFrom low) one.job.stretches
 
@@ -110,12 +112,12 @@ module _ (units whole : Units) (shift low : ℕ) (later : AreLater units whole s
   runs_of_job : written_runs whole one.job ≡ map (run_later shift) (written_runs units one.job)
   runs_of_job = runs_are_later units whole shift low later (reverse one.job.stretches) (reverse-all (IsFrom low) one.job.stretches timed.stretches)
 
-  hidden_later : is_hidden whole one ≡ is_hidden units one
-  hidden_later = by one.job.end refl
+  hidden_later : low ≤ one.due → is_hidden whole one ≡ is_hidden units one
+  hidden_later due_on = by one.job.end refl
     where
       runs_late : nat_le (runs_end (written_runs whole one.job)) (written_time whole one.due) ≡ nat_le (runs_end (written_runs units one.job)) (written_time units one.due)
       runs_late =
-          ap₂ (λ (runs : List Run) (due : ℕ). nat_le (runs_end runs) due) runs_of_job (later.times one.due timed.due)
+          ap₂ (λ (runs : List Run) (due : ℕ). nat_le (runs_end runs) due) runs_of_job (later.times one.due due_on)
           ∙ end_later shift (written_time units one.due) (written_runs units one.job)
 
       by : (end : End) → one.job.end ≡ end →
@@ -124,7 +126,7 @@ module _ (units whole : Units) (shift low : ℕ) (later : AreLater units whole s
       by ends.Open is = refl
       by (ends.Ended end) is =
           ap₂ (λ (b c : Bool). b && c)
-          (ap₂ (λ (m n : ℕ). nat_lt m n) (later.times one.due timed.due) (later.times end (timed.end end is))
+          (ap₂ (λ (m n : ℕ). nat_lt m n) (later.times one.due due_on) (later.times end (timed.end end is))
           ∙ lt_later (written_time units one.due) (written_time units end) shift) runs_late
       by (ends.Lost since) is = refl
 
@@ -135,30 +137,35 @@ module _ (units whole : Units) (shift low : ℕ) (later : AreLater units whole s
       ∙ ap (λ (b : Bool). release_later shift (not b && not one.job.begin_known) (written_time units one.job.begin)) (sym stands_so) in
       let work : work_of_runs (written_runs whole one.job) + owed whole one ≡ work_of_runs (written_runs units one.job) + owed units one =
       ap₂ (λ (m n : ℕ). m + n) (ap work_of_runs runs_of_job ∙ work_later shift (written_runs units one.job))
-      (ap (λ (b : Bool). one_if (is_some one.late && b)) hidden_later) in
-      ap₂ (λ (from due : ℕ). a_job (written_name one) from due (work_of_runs (written_runs whole one.job) + owed whole one) (written_runs whole one.job)) release (later.times one.due timed.due)
+      (ap (λ (b : Bool). one_if (is_some one.late && b)) (hidden_later (timed.due stands_so))) in
+      ap₂ (λ (from due : ℕ). a_job (written_name one) from due (work_of_runs (written_runs whole one.job) + owed whole one) (written_runs whole one.job)) release (later.times one.due (timed.due stands_so))
       ∙ ap₂ (λ (some : ℕ) (runs : List Run).
       a_job (written_name one) (release_later shift (is_at_zero one) (written_time units one.job.begin)) (written_time units one.due + shift) some runs) work runs_of_job
 
   missed_later : stands one ≡ false → without_runs whole one ≡ job_later shift one (without_runs units one)
   missed_later stands_not =
-      at one.job.begin_known
+      at one.job.begin_known refl
       ∙ ap (λ (b : Bool). a_job (written_name one) (release_later shift (not b && not one.job.begin_known) (release_without_runs units one.job))
       (max (release_without_runs units one.job + 1) (written_time units one.due) + shift) 1 []) (sym stands_not)
     where
-      due_at : (shift ≡ 0) ⊎ (1 ≤ written_time units one.due) → max (0 + 1) (written_time whole one.due) ≡ max (0 + 1) (written_time units one.due) + shift
-      due_at (inl none) = omega (arith, later.times one.due timed.due, none)
-      due_at (inr one_more) = omega (arith, later.times one.due timed.due, one_more)
+      due_at : low ≤ one.due → (shift ≡ 0) ⊎ (1 ≤ written_time units one.due) → max (0 + 1) (written_time whole one.due) ≡ max (0 + 1) (written_time units one.due) + shift
+      due_at due_on (inl none) = omega (arith, later.times one.due due_on, none)
+      due_at due_on (inr one_more) = omega (arith, later.times one.due due_on, one_more)
 
-      at : (b : Bool) →
+      -- where its deadline is over before `low`, it is before the job's begin
+      due_by : (one.due < low) ⊎ (low ≤ one.due) →
+          max (written_time whole one.job.begin + 1) (written_time whole one.due) ≡ max (written_time units one.job.begin + 1) (written_time units one.due) + shift
+      due_by (inl before) =
+          let on = later.order one.due one.job.begin (omega (arith, before, timed.begin)) in omega (arith, later.times one.job.begin timed.begin, on.0, on.1)
+      due_by (inr due_on) = omega (arith, later.times one.job.begin timed.begin, later.times one.due due_on)
+
+      at : (b : Bool) → one.job.begin_known ≡ b →
           a_job (written_name one) (time_if b (written_time whole one.job.begin)) (max (time_if b (written_time whole one.job.begin) + 1) (written_time whole one.due)) 1 []
           ≡ a_job (written_name one) (release_later shift (not false && not b) (time_if b (written_time units one.job.begin)))
           (max (time_if b (written_time units one.job.begin) + 1) (written_time units one.due) + shift) 1 []
-      at true =
-          ap₂ (λ (from due : ℕ). a_job (written_name one) from due 1 []) (later.times one.job.begin timed.begin)
-          (let e : max (written_time whole one.job.begin + 1) (written_time whole one.due) ≡ max (written_time units one.job.begin + 1) (written_time units one.due) + shift =
-          omega (arith, later.times one.job.begin timed.begin, later.times one.due timed.due) in e)
-      at false = ap (λ (due : ℕ). a_job (written_name one) 0 due 1 []) (due_at timed.window)
+      at true known =
+          ap₂ (λ (from due : ℕ). a_job (written_name one) from due 1 []) (later.times one.job.begin timed.begin) (due_by (cases_lt one.due low))
+      at false unknown = ap (λ (due : ℕ). a_job (written_name one) 0 due 1 []) (due_at (timed.window unknown).0 (timed.window unknown).1)
 
   -- What is written of a job in the units of its part is what is written in those of the whole.
   pub written_later : option_map (job_later shift one) (written_of units one) ≡ written_of whole one

@@ -1,6 +1,8 @@
 pub mod Told
 pub mod Going
 pub mod Lines
+pub mod Missing
+pub mod First
 pub mod Holding
 pub mod Same
 pub mod Parting

@@ -1,10 +1,10 @@
 -- One line more: times go on, and what a loss reaches back to is the same among the lines that count.
-use Rattle.yds_model.proofs.Common.{◌≡◌, ◌∙◌, ℕ, ◌+◌, ◌<◌, ◌≤◌, ◌==◌, List, [], ◌∷◌, min, Bool, true, false, nat_lt, nat_le, if◌then◌else◌, Option, Some, None, unwrap_or, refl, sym, ap, arith, ltb-true, leb-true, leb-false, lt-ltb, le-leb, cond_both}
+use Rattle.yds_model.proofs.Common.{◌≡◌, ◌∙◌, ℕ, ◌+◌, ◌<◌, ◌≤◌, ◌==◌, ◌&&◌, List, [], ◌∷◌, min, Bool, true, false, nat_lt, nat_le, if◌then◌else◌, Option, Some, None, unwrap_or, refl, sym, ap, arith, ltb-true, leb-true, leb-false, lt-ltb, le-leb, cond_both}
 use Rattle.yds_kernel.specs.declared.loss.Since.{Since}
 use Rattle.yds_kernel.specs.declared.loss.Since.TheVariants as since
 use Rattle.yds_kernel.specs.Event.{Happening, Switch, WakeUp, Speed, Loss, Marker, Other, Event, Said, Stamped, Lost, Nothing}
 use Rattle.yds_trace.specs.Asked.{is_before_to, is_within_to}
-use Rattle.yds_trace.specs.Past.{first_time, last_time, last_time_on, lost_since, is_loss, lines_since, counts, is_first_switch, stayed, up_to_time, up_to}
+use Rattle.yds_trace.specs.Past.{first_time, last_time, last_time_on, lost_since, is_loss, is_switch, last_switch, lines_since, counts, is_first_switch, stayed, up_to_time, up_to}
 use Rattle.yds_trace_laws.proofs.Sharing.{AreBy, GoesOn, all_by, counted_by}
 
 -- # Up to when it is asked
@@ -58,7 +58,7 @@ earlier None one time within before = refl
 earlier (Some to) one time within before = le-leb one to (omega (arith, within, leb-true time to before))
 
 -- No time of these lines is after the last one, as far as that isn't after `to`.
-first_by : (to : Option ℕ) (past : List Said) (here time : ℕ) → GoesOn to past → last_time past ≤ time → here ≤ time → is_before_to to time ≡ true →
+pub first_by : (to : Option ℕ) (past : List Said) (here time : ℕ) → GoesOn to past → last_time past ≤ time → here ≤ time → is_before_to to time ≡ true →
     first_time here past ≤ time
 first_by to [] here time goes last within before = within
 first_by to (Stamped event ∷ past) here time goes last within before =
@@ -130,7 +130,7 @@ no_stamp past time none = by (first_stamp past) none
     by None none = cc none
     by (Some first) none = cc none
 
-none_stamped : (to : ℕ) (past : List Said) → first_stamp past ≡ None → first_stamp (up_to_time to past) ≡ None
+pub none_stamped : (to : ℕ) (past : List Said) → first_stamp past ≡ None → first_stamp (up_to_time to past) ≡ None
 none_stamped to [] none = refl
 none_stamped to (Stamped event ∷ past) none = absurd (no_stamp past event.time none)
 none_stamped to (Lost processor reach ∷ past) none =
@@ -325,6 +325,26 @@ lines_by time processor here (Stamped event ∷ past) within by =
     which false other rest = rest other
 lines_by time processor here (Lost other reach ∷ past) within by = within
 lines_by time processor here (Nothing ∷ past) within by = lines_by time processor here past within by
+
+-- A processor's last switch is no later than all lines.
+switch_by : (time processor : ℕ) (past : List Said) → AreBy time past → unwrap_or (last_switch processor past) 0 ≤ time
+switch_by time processor [] by = omega arith
+switch_by time processor (Stamped event ∷ past) by =
+    which (is_loss event.happening) refl (is_switch event.happening && (event.processor == processor)) (switch_by time processor past by.1)
+  where
+    which : (b : Bool) → is_loss event.happening ≡ b → (c : Bool) → unwrap_or (last_switch processor past) 0 ≤ time →
+        unwrap_or (if b then None else (if c then Some event.time else last_switch processor past)) 0 ≤ time
+    which true loss c rest = omega arith
+    which false other true rest = by.0 other
+    which false other false rest = rest
+switch_by time processor (Lost other reach ∷ past) by = omega arith
+switch_by time processor (Nothing ∷ past) by = switch_by time processor past by
+
+-- Nor is the time since when it tells.
+pub told_by : (time processor here : ℕ) (past : List Said) → here ≤ time → AreBy time past →
+    unwrap_or (last_switch processor past) (lines_since processor here past) ≤ time
+told_by time processor here past within by =
+    option_by time (lines_since processor here past) (last_switch processor past) (switch_by time processor past by) (lines_by time processor here past within by)
 
 -- Behind a line that isn't after `to` all that count are by its time.
 pub counting_by : (to : Option ℕ) (past : List Said) (time : ℕ) → GoesOn to past → last_time past ≤ time → is_before_to to time ≡ true → AreBy time (up_to to past)

@@ -11,10 +11,10 @@ use Rattle.yds_trace.specs.declared.job.Stretch.{Stretch}
 use Rattle.yds_trace.specs.Asked.{Task, Asked, task_at}
 use Rattle.yds_trace.specs.Past.{last_time, up_to, speed_after}
 use Rattle.yds_trace.specs.Jobs.{Job, Known, unknown, changed_last, ran, known_after}
-use Rattle.yds_trace.specs.Late.{last_asked}
+use Rattle.yds_trace.specs.Late.{last_asked, due}
 use Rattle.yds_trace.specs.Document.{closed, jobs_of, share_of, shares_of, Judged, judged, judged_of, judged_from, all_judged, began_before, stands}
 use Rattle.yds_trace.specs.Others.{others_from}
-use Rattle.yds_trace.specs.Parts.{belongs, begin_of, begins_from, begins_before, last_begin, last_begin_of, is_over, is_settled, ended_by, is_done_by, each_before, has_job, is_quiet, has_own_job, is_closed_by, is_closed, last_where, place_among, is_much, is_due, may_write, no_cut, waiting, is_before_end, part_until, place_of, with_part, cut_at, cut_after, part_fault}
+use Rattle.yds_trace.specs.Parts.{belongs, begin_of, begins_from, begins_before, is_over, is_settled, ended_by, is_done_by, each_before, has_job, is_quiet, has_own_job, is_closed_by, is_closed, last_where, place_among, is_much, is_due, no_cut, waiting, is_before_end, part_until, place_of, with_part, cut_at, cut_after, part_fault}
 use Rattle.yds_trace_document.proofs.Sorting.{FromLow, Rises, rises_in_order}
 use Rattle.yds_trace_laws.proofs.Ordered.{append-all, append-all_left, append-all_right, in_order-all, in_order-all_back}
 use Rattle.yds_trace_laws.proofs.Runs.{all_weaker, reverse-all, reverse-all_back}
@@ -26,7 +26,7 @@ use Rattle.yds_trace_whole.proofs.Told.{told, Each}
 use Rattle.yds_trace_whole.proofs.Going.{IsSound, IsSoundEnd, AreSound, IsDone, IsOff, IsLeft, StandsBy, Keeps}
 use Rattle.yds_trace_whole.proofs.Lines.{beyond, until_most}
 use Rattle.yds_trace_whole.proofs.Holding.{IsFirmEnd, IsFirm, ripe_from, counted, Holds, now_is, now_goes_on, goes_behind, line_keeps, line_holds}
-use Rattle.yds_trace_whole.proofs.Same.{all_same}
+use Rattle.yds_trace_whole.proofs.Same.{told_from, all_same}
 
 -- # Lists
 
@@ -298,7 +298,7 @@ place_is asked past cut time holds is = by (is_due past && is_much (waiting aske
 
 abbrev IsSettledJob : Asked → List Said → ℕ → Job → Type 0
 IsSettledJob asked past number job =
-    (is_over (last_asked asked past) (nat_lt job.begin (last_begin_of asked past number)) job.end
+    (is_over (last_asked asked past) (due (task_at asked number) job) job.end
     && nat_le (job.begin + (task_at asked number).apart) (last_time past)) ≡ true
 
 -- of those that wait
@@ -356,34 +356,32 @@ module _ (asked : Asked) (past : List Said) (cut : Cut) (time number : ℕ) wher
   now_by = omega (arith, now_is asked past, until_most asked.to (last_time past))
 
   -- one that was settled before
-  old_firm : (decided ripe : ℕ) (absent : Bool) (end : End) → IsSoundEnd (last_asked asked past) absent end → IsFirmEnd (last_asked asked past) decided (last_time past) ripe end →
-      IsFirmEnd (last_asked asked past) (last_time past) (last_time past) ripe end
-  old_firm decided ripe absent ends.Open sound firm = firm
-  old_firm decided ripe absent (ends.Ended end) sound firm = (omega (arith, sound, now_by), firm.1)
-  old_firm decided ripe absent (ends.Unseen since goes_on) sound firm = omega (arith, sound.0, now_by)
-  old_firm decided ripe absent (ends.Lost since) sound firm = (omega (arith, sound, now_by), firm.1)
+  old_firm : (decided ripe deadline : ℕ) (end : End) → IsSoundEnd (last_asked asked past) end → IsFirmEnd (last_asked asked past) decided (last_time past) ripe deadline end →
+      IsFirmEnd (last_asked asked past) (last_time past) (last_time past) ripe deadline end
+  old_firm decided ripe deadline ends.Open sound firm = firm
+  old_firm decided ripe deadline (ends.Ended end) sound firm = (omega (arith, sound, now_by), firm.1)
+  old_firm decided ripe deadline (ends.Lost since) sound firm = (omega (arith, sound, now_by), firm.1, firm.2)
 
   -- one that is settled now
-  new_firm : (followed : Bool) (until_then : ℕ) (absent : Bool) (end : End) → IsSoundEnd (last_asked asked past) absent end →
-      (is_over (last_asked asked past) followed end && nat_le until_then (last_time past)) ≡ true →
-      IsFirmEnd (last_asked asked past) (last_time past) (last_time past) (beyond asked.to until_then) end
-  new_firm followed until_then absent ends.Open sound settled = cc settled
-  new_firm followed until_then absent (ends.Ended end) sound settled =
+  new_firm : (until_then deadline : ℕ) (end : End) → IsSoundEnd (last_asked asked past) end →
+      (is_over (last_asked asked past) deadline end && nat_le until_then (last_time past)) ≡ true →
+      IsFirmEnd (last_asked asked past) (last_time past) (last_time past) (beyond asked.to until_then) deadline end
+  new_firm until_then deadline ends.Open sound settled = cc settled
+  new_firm until_then deadline (ends.Ended end) sound settled =
       (omega (arith, sound, now_by), omega (arith, beyond_most asked.to until_then, leb-true until_then (last_time past) settled))
-  new_firm followed until_then absent (ends.Unseen since goes_on) sound settled = omega (arith, sound.0, now_by)
-  new_firm followed until_then absent (ends.Lost since) sound settled = (
-    omega (arith, sound, now_by),
-    ltb-true since (last_asked asked past) (and_parts (nat_lt since (last_asked asked past)) (nat_le until_then (last_time past)) settled).0,
-  )
+  new_firm until_then deadline (ends.Lost since) sound settled =
+      let over = and_parts (nat_lt since (last_asked asked past)) (nat_le deadline (last_asked asked past))
+      (and_parts (nat_lt since (last_asked asked past) && nat_le deadline (last_asked asked past)) (nat_le until_then (last_time past)) settled).0 in
+      (omega (arith, sound, now_by), ltb-true since (last_asked asked past) over.0, leb-true deadline (last_asked asked past) over.1)
 
   job_firm : (job : Job) → IsSound (last_asked asked past) job → (job.begin < cut.boundary → IsFirm asked past cut.decided number job) →
       SettledBetween asked past cut.boundary time number job → job.begin < time → IsFirm asked past (last_time past) number job
   job_firm job sound firm settled before = by (cases_lt job.begin cut.boundary)
     where
       by : (job.begin < cut.boundary) ⊎ (cut.boundary ≤ job.begin) → IsFirm asked past (last_time past) number job
-      by (inl early) = old_firm cut.decided (ripe_from asked number job) job.switch_missing job.end sound.1 (firm early)
+      by (inl early) = old_firm cut.decided (ripe_from asked number job) (due (task_at asked number) job) job.end sound.1 (firm early)
       by (inr from) =
-          new_firm (nat_lt job.begin (last_begin_of asked past number)) (job.begin + (task_at asked number).apart) job.switch_missing job.end sound.1 (settled from before)
+          new_firm (job.begin + (task_at asked number).apart) (due (task_at asked number) job) job.end sound.1 (settled from before)
 
   jobs_firm : (jobs : List Job) → AreSound (last_asked asked past) jobs → Each (IsFirm asked past cut.decided number) cut.boundary jobs →
       AllByRecursion (SettledBetween asked past cut.boundary time number) jobs → Each (IsFirm asked past (last_time past) number) time jobs
@@ -394,26 +392,19 @@ module _ (asked : Asked) (past : List Said) (cut : Cut) (time number : ℕ) wher
   off None job jobs stands done = tt
   off (Some standing) job jobs stands done = subst IsDone stands.1 done
 
-  -- The last job follows no other.
-  done_now : (begin ripe : ℕ) (end : End) → (is_over (last_asked asked past) (nat_lt begin begin) end && nat_le ripe (last_time past)) ≡ true → IsDone end
-  done_now begin ripe ends.Open settled = cc settled
-  done_now begin ripe (ends.Ended end) settled = tt
-  done_now begin ripe (ends.Unseen since goes_on) settled =
-      let no : nat_lt begin begin ≡ false = le-ltb begin begin (omega arith) in
-      let so : nat_lt begin begin ≡ true = (and_parts (nat_lt begin begin) (nat_le ripe (last_time past)) settled).0 in
-      (let never : false ≡ true = sym no ∙ so in cc never)
-  done_now begin ripe (ends.Lost since) settled = tt
+  -- what is settled is done
+  done_now : (ripe deadline : ℕ) (end : End) → (is_over (last_asked asked past) deadline end && nat_le ripe (last_time past)) ≡ true → IsDone end
+  done_now ripe deadline ends.Open settled = cc settled
+  done_now ripe deadline (ends.Ended end) settled = tt
+  done_now ripe deadline (ends.Lost since) settled = tt
 
-  last_left : (on : Option Standing) (jobs : List Job) → last_begin_of asked past number ≡ last_begin jobs → IsLeft cut.boundary on jobs → StandsBy (last_asked asked past) on jobs →
+  last_left : (on : Option Standing) (jobs : List Job) → IsLeft cut.boundary on jobs → StandsBy (last_asked asked past) on jobs →
       AllByRecursion (SettledBetween asked past cut.boundary time number) jobs → IsLeft time on jobs
-  last_left on [] is last stands settled = tt
-  last_left on (job ∷ jobs) is last stands settled = by (cases_lt job.begin time) last
+  last_left on [] last stands settled = tt
+  last_left on (job ∷ jobs) last stands settled = by (cases_lt job.begin time) last
     where
       finished : (cut.boundary ≤ job.begin) → job.begin < time → IsDone job.end
-      finished from before =
-          done_now job.begin (job.begin + (task_at asked number).apart) job.end
-          (subst (λ (begin : ℕ). (is_over (last_asked asked past) (nat_lt job.begin begin) job.end
-          && nat_le (job.begin + (task_at asked number).apart) (last_time past)) ≡ true) is (settled.0 from before))
+      finished from before = done_now (job.begin + (task_at asked number).apart) (due (task_at asked number) job) job.end (settled.0 from before)
 
       by : (job.begin < time) ⊎ (time ≤ job.begin) → (cut.boundary ≤ job.begin) ⊎ (IsDone job.end × IsOff on) → (time ≤ job.begin) ⊎ (IsDone job.end × IsOff on)
       by (inr late) last = inl late
@@ -427,7 +418,7 @@ module _ (asked : Asked) (past : List Said) (cut : Cut) (time number : ℕ) wher
       let settled = jobs_settled asked past cut time number place.quiet within in
       let known : Known = counted asked past number in
       let firm : Each (IsFirm asked past (last_time past) number) time known.jobs = jobs_firm known.jobs holds.keeps.sound holds.firm settled in
-      let last : IsLeft time known.on known.jobs = last_left known.on known.jobs refl holds.keeps.last holds.keeps.stands settled in
+      let last : IsLeft time known.on known.jobs = last_left known.on known.jobs holds.keeps.last holds.keeps.stands settled in
       record {
         keeps = record {
           told = refl;
@@ -445,6 +436,7 @@ module _ (asked : Asked) (past : List Said) (cut : Cut) (time number : ℕ) wher
 pub record Stands (asked : Asked) (past : List Said) (cut : Cut) (parts : List Part) : Type 0 where
   pub holds : (number : ℕ) → number < length asked.tasks → Holds asked past cut number
   pub begun : cut.boundary ≤ last_asked asked past
+  pub decided : cut.boundary ≤ cut.decided
   pub same : judged_in_parts parts ≡ own_before asked past cut.boundary
 
 no_lines : (asked : Asked) (number : ℕ) → unknown ≡ counted asked [] number
@@ -469,7 +461,7 @@ judged_made asked past cut time (one ∷ part) is = append-nil (part_until asked
 pub part_more : (asked : Asked) (past : List Said) (cut : Cut) (parts : List Part) (o : Option ℕ) → place_of asked past cut ≡ o → Stands asked past cut parts →
     Stands asked past (cut_at asked past cut o) (parts ++ made_at asked past cut o)
 part_more asked past cut parts None none stands =
-    record { holds = stands.holds; begun = stands.begun; same = ap judged_in_parts (append-nil parts) ∙ stands.same }
+    record { holds = stands.holds; begun = stands.begun; decided = stands.decided; same = ap judged_in_parts (append-nil parts) ∙ stands.same }
 part_more asked past cut parts (Some time) some stands =
     let place : IsPlace asked past cut time = place_is asked past cut time stands.holds some in
     let part : List Judged = part_until asked past cut (Some time) in
@@ -477,6 +469,7 @@ part_more asked past cut parts (Some time) some stands =
     record {
       holds = λ number within. cut_holds asked past cut time number place within (stands.holds number within) now refl refl;
       begun = place.by;
+      decided = omega (arith, place.by, now_is asked past, until_most asked.to (last_time past));
       same = flat_map-append (λ (one : Part). one.settled.judged) parts (made_with asked past cut time part)
           ∙ ap₂ (λ (first second : List Judged). first ++ second) stands.same (judged_made asked past cut time part refl)
           ∙ next_own asked past cut time place.from;
@@ -487,16 +480,18 @@ pub line_more : (asked : Asked) (said : Said) (past : List Said) (cut : Cut) (pa
 line_more asked said past cut parts goes none stands =
     let on : last_asked asked past ≤ last_asked asked (said ∷ past) = now_goes_on asked said past goes in
     record {
-      holds = λ number within. line_holds asked past cut number stands.begun (stands.holds number within) said goes none;
+      holds = λ number within. line_holds asked past cut number within stands.begun stands.decided (stands.holds number within) said goes none;
       begun = omega (arith, stands.begun, on);
+      decided = stands.decided;
       same = stands.same
           ∙ ap (filter (belongs asked)) (sym (all_same asked past (said ∷ past) cut on stands.holds
-          (λ number within. line_keeps asked past cut number stands.begun (stands.holds number within) said goes none)));
+          (λ number within. told_from asked said past cut number (goes_behind asked.to said past goes) (stands.holds number within))
+          (λ number within. line_keeps asked past cut number within stands.begun stands.decided (stands.holds number within) said goes none)));
     }
 
 pub parts_stand : (asked : Asked) (past : List Said) → GoesOn asked.to past → KeepsParts asked past → Stands asked past (cut_after asked past) (parts_behind asked past)
 parts_stand asked [] goes kept =
-    record { holds = λ number within. at_first asked number; begun = omega arith; same = own_nothing asked [] }
+    record { holds = λ number within. at_first asked number; begun = omega arith; decided = omega arith; same = own_nothing asked [] }
 parts_stand asked (said ∷ past) goes kept =
     let cut : Cut = cut_after asked past in
     part_more asked (said ∷ past) cut (parts_behind asked past) (place_of asked (said ∷ past) cut) refl

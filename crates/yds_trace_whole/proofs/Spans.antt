@@ -316,7 +316,7 @@ part_spanned asked past cut parts (Some time) goes some spanned =
 
 no_spans_yet : (asked : Asked) → Spanned asked [] no_cut []
 no_spans_yet asked = record {
-  stands = record { holds = λ number within. at_first asked number; begun = omega arith; same = own_nothing asked [] };
+  stands = record { holds = λ number within. at_first asked number; begun = omega arith; decided = omega arith; same = own_nothing asked [] };
   reached = reached_by asked.to (up_to asked.to []) no_cut (omega arith);
   spans = tt;
 }

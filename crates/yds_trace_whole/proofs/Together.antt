@@ -1,5 +1,5 @@
 -- The documents of the parts, put together, are the one document of the whole.
-use Rattle.yds_model.proofs.Common.{◌≡◌, ◌∙◌, ℕ, zero, suc, ◌+◌, ◌-◌, ◌*◌, ◌/◌, ◌<◌, ◌≤◌, ◌⊎◌, inl, inr, ◌==◌, ◌&&◌, ◌||◌, List, [], ◌∷◌, ◌++◌, map, filter, flat_map, filter_map, length, get_or, reverse, Bool, true, false, not, nat_lt, if◌then◌else◌, Option, Some, None, is_some, unwrap_or, option_map, refl, sym, ap, ap₂, subst, arith, le-ltb, ltb-true, leb-true, and_parts, true≢false, append-nil, append_assoc, length-append, flat_map-append, filter_map-append, filter_all, recursion_from_All, All-from_recursion, add-mul-div_right, div-mul-le_self, le-div_iff_mul-le, mul-le-mul_right, zero-mul}
+use Rattle.yds_model.proofs.Common.{◌≡◌, ◌∙◌, ℕ, zero, suc, ◌+◌, ◌-◌, ◌*◌, ◌/◌, ◌<◌, ◌≤◌, ◌⊎◌, inl, inr, ◌==◌, ◌&&◌, ◌||◌, List, [], ◌∷◌, ◌++◌, map, filter, flat_map, filter_map, length, get_or, reverse, Bool, true, false, not, nat_lt, if◌then◌else◌, Option, Some, None, is_some, unwrap_or, option_map, refl, sym, ap, ap₂, subst, arith, le-ltb, ltb-true, leb-true, and_parts, true≢false, append-nil, append_assoc, length-append, flat_map-append, filter_map-append, filter_all, recursion_from_All, All-from_recursion, add-mul-div_right, div-mul-le_self, le-div_iff_mul-le, mul-le-mul_right, zero-mul, ltb-false}
 use Rattle.std.specs.List.{AllByRecursion, cons_option}
 use Rattle.yds_kernel.specs.Event.{Said, Stamped, Lost, Nothing}
 use Rattle.yds_trace.specs.declared.cut.Cut.{Cut}
@@ -10,13 +10,14 @@ use Rattle.yds_trace.specs.declared.job.Stretch.{Stretch}
 use Rattle.yds_trace.specs.Asked.{Asked, IsAsked, no_task, task_at}
 use Rattle.yds_trace.specs.Past.{first_time, last_time}
 use Rattle.yds_trace.specs.Jobs.{Job, Known, changed_last, ran}
-use Rattle.yds_trace.specs.Late.{last_asked}
+use Rattle.yds_trace.specs.Late.{last_asked, due}
 use Rattle.yds_trace.specs.WrittenTime.{Units, Run, written_time, run_of, before, runs_of}
 use Rattle.yds_trace.specs.Document.{closed, jobs_of, share_of, shares_of, has_run_on, began_before, Judged, judged, judged_from, all_judged, stands, Written, written_runs, with_runs, without_runs, written_of, Placed, Document}
 use Rattle.yds_trace.specs.Parts.{belongs, begin_of, begins_from, begins_before, is_written, has_job, each_before, is_settled, ended_by, is_done_by, no_cut, waiting, is_before_end, part_until, place_of, cut_at, cut_after, part_fault}
 use Rattle.yds_trace_document.specs.Part.{whole_zero, shift_of, part_units}
 use Rattle.yds_trace_document.proofs.Sorting.{FromLow, Rises}
 use Rattle.yds_trace_laws.specs.InUnits.{document_in}
+use Rattle.yds_trace_laws.proofs.Faithful.{whole_job}
 use Rattle.yds_trace_laws.proofs.Ordered.{either_all, append-all, in_order-all, filter-all, filter_map-all}
 use Rattle.yds_trace_laws.proofs.Runs.{all_weaker, reverse-all, IsForward, runs_forward}
 use Rattle.yds_trace_laws.proofs.Shares.{share_kept}
@@ -41,9 +42,13 @@ a_document jobs runs = record { jobs = jobs; runs = runs }
 
 -- # What is known of each judged job
 
--- Its deadline is at least a unit after its begin, and its stretches lie between its begin and its end.
+-- Where it stands, or its begin isn't known, its deadline is at least a unit after its begin.
+abbrev HasWindow : Asked → Judged → Type 0
+HasWindow asked one = (stands one ≡ true) ⊎ (one.job.begin_known ≡ false) → one.job.begin + asked.unit ≤ one.due
+
+-- And its stretches lie between its begin and its end.
 abbrev IsClocked : Asked → ℕ → Judged → Type 0
-IsClocked asked now one = (one.job.begin + asked.unit ≤ one.due) × IsSound now one.job
+IsClocked asked now one = HasWindow asked one × IsSound now one.job
 
 -- who still has its processor has had it until now
 closed_sound : (asked : Asked) (past : List Said) (known : Known) → AreSound (last_asked asked past) known.jobs → StandsBy (last_asked asked past) known.on known.jobs →
@@ -56,7 +61,7 @@ closed_sound asked past known sound stands = by known.on stands
     more standing (job ∷ jobs) sound stands =
         let whole : last_asked asked past ≡ latest (last_asked asked past) job.end =
         subst (λ (end : End). last_asked asked past ≡ latest (last_asked asked past) end) (sym stands.1) refl in
-        ((sound.0.0, sound.0.1, sound.0.2, ((stands.2, stands.3, omega (arith, whole)), sound.0.3)), sound.1)
+        ((sound.0.0, sound.0.1, sound.0.2, ((stands.2, stands.3, omega (arith, whole)), sound.0.3), sound.0.4, sound.0.5), sound.1)
 
     by : (on : Option Standing) → StandsBy (last_asked asked past) on known.jobs →
         AreSound (last_asked asked past) (elim on [ None ↦ known.jobs | Some standing ↦ changed_last (ran (closing asked past standing)) known.jobs ])
@@ -67,7 +72,15 @@ closed_sound asked past known sound stands = by known.on stands
 share_sound : (asked : Asked) (now : ℕ) (job : Job) → IsSound now job → IsSound now (share_of asked job)
 share_sound asked now job sound =
     share_kept (IsSound now)
-    (λ processor job is. (is.0, is.1, is.2, filter-all (IsSpan job.begin (latest now job.end)) (λ stretch. stretch.processor == processor) job.stretches is.3)) asked job sound
+    (λ processor job is. (is.0, is.1, is.2, filter-all (IsSpan job.begin (latest now job.end)) (λ stretch. stretch.processor == processor) job.stretches is.3, is.4, is.5)) asked job
+    sound
+
+-- A job that stands isn't due before, and one whose begin isn't known is due by no earlier time than that.
+window_of : (asked : Asked) (past : List Said) (number place : ℕ) (before : Bool) (now : ℕ) (job : Job) → asked.unit ≤ (task_at asked number).deadline → IsSound now job →
+    HasWindow asked (judged asked past number before (place, job))
+window_of asked past number place before now job enough sound (inl so) =
+    ltb-false (due (task_at asked number) job) (job.begin + asked.unit) (whole_job asked past (task_at asked number) job so).1
+window_of asked past number place before now job enough sound (inr unknown) = omega (arith, enough, sound.5 unknown)
 
 all_clocked : (asked : Asked) (past : List Said) (cut : Cut) → IsAsked asked → ((number : ℕ) → number < length asked.tasks → Holds asked past cut number) →
     AllByRecursion (IsClocked asked (last_asked asked past)) (all_judged asked past)
@@ -78,7 +91,8 @@ all_clocked asked past cut words holds =
     let known : Known = counted asked past number in
     let held : Holds asked past cut number = holds number (omega (arith, within)) in
     let enough : asked.unit ≤ (task_at asked number).deadline = words.deadlines number no_task (omega (arith, within)) in
-    numbered_all asked past (IsClocked asked now) number (began_before (jobs_of asked past number)) (IsSound now) (λ place job sound. (omega (arith, enough), sound)) 0
+    let before : Bool = began_before (jobs_of asked past number) in
+    numbered_all asked past (IsClocked asked now) number before (IsSound now) (λ place job sound. (window_of asked past number place before now job enough sound, sound)) 0
     (shares_of asked past number)
     (shares_all (IsSound now) asked (share_sound asked now) (jobs_of asked past number)
     (reverse-all (IsSound now) (closed asked past known) (closed_sound asked past known held.keeps.sound held.keeps.stands)))))
@@ -99,6 +113,13 @@ abbrev low_of : List Judged → ℕ
 low_of [] = 0
 low_of (one ∷ judged) = one.job.begin
 
+-- in both units time goes on
+order_of : (asked : Asked) (past : List Said) (part : List Judged) → 1 ≤ asked.unit → (time other : ℕ) → time ≤ other →
+    (written_time (part_units asked past part) time ≤ written_time (part_units asked past part) other)
+    × (written_time (whole_units asked past) time ≤ written_time (whole_units asked past) other)
+order_of asked past part positive time other on =
+    (order_is_kept (part_units asked past part) time other positive on, order_is_kept (whole_units asked past) time other positive on)
+
 part_is_later : (asked : Asked) (past : List Said) (part : List Judged) → 1 ≤ asked.unit →
     AreLater (part_units asked past part) (whole_units asked past) (shift_of asked past part) (low_of part)
 part_is_later asked past [] positive = record {
@@ -107,9 +128,10 @@ part_is_later asked past [] positive = record {
       ap (λ (start : ℕ). (time - start) / asked.unit) (sym none) ∙
       (let e : (time - (whole_zero asked past + 0 * asked.unit)) / asked.unit ≡ (time - (whole_zero asked past + 0 * asked.unit)) / asked.unit + 0 = omega arith in e);
   speed = refl;
+  order = order_of asked past [] positive;
 }
 part_is_later asked past (one ∷ part) positive =
-    record { times = λ time from. shift_time (whole_zero asked past) asked.unit one.job.begin time positive from; speed = refl }
+    record { times = λ time from. shift_time (whole_zero asked past) asked.unit one.job.begin time positive from; speed = refl; order = order_of asked past (one ∷ part) positive }
 
 -- A deadline comes a unit after its part's first begin, or nothing is taken off.
 window_is : (origin unit first begin due : ℕ) → 1 ≤ unit → first ≤ begin → begin + unit ≤ due →
@@ -129,16 +151,17 @@ one_timed : (asked : Asked) (past : List Said) (now : ℕ) (part : List Judged) 
     IsTimed (part_units asked past part) (shift_of asked past part) (low_of part) one
 one_timed asked past now part one positive from clocked = record {
   begin = from;
-  due = omega (arith, from, clocked.0);
-  window = window_at part from;
+  due = λ so. omega (arith, from, clocked.0 (inl so));
+  window = λ unknown. (omega (arith, from, clocked.0 (inr unknown)), window_at part from (clocked.0 (inr unknown)));
   end = λ time is. clocked_end now (low_of part) time one.job.end (omega (arith, from, clocked.1.2)) is;
   stretches = all_weaker (IsSpan one.job.begin (latest now one.job.end)) (λ (s : Stretch). (low_of part ≤ s.from) × (low_of part ≤ s.to))
       (λ s is. (omega (arith, is.0, from), omega (arith, is.0, is.1, from))) one.job.stretches clocked.1.3;
 }
   where
-    window_at : (jobs : List Judged) → low_of jobs ≤ one.job.begin → (shift_of asked past jobs ≡ 0) ⊎ (1 ≤ written_time (part_units asked past jobs) one.due)
-    window_at [] low = inl refl
-    window_at (first ∷ jobs) low = window_is (whole_zero asked past) asked.unit first.job.begin one.job.begin one.due positive low clocked.0
+    window_at : (jobs : List Judged) → low_of jobs ≤ one.job.begin → one.job.begin + asked.unit ≤ one.due →
+        (shift_of asked past jobs ≡ 0) ⊎ (1 ≤ written_time (part_units asked past jobs) one.due)
+    window_at [] low window = inl refl
+    window_at (first ∷ jobs) low window = window_is (whole_zero asked past) asked.unit first.job.begin one.job.begin one.due positive low window
 
 -- the first job begins first
 low_first : (part : List Judged) → Rises begin_of part → FromLow begin_of (low_of part) part
@@ -323,7 +346,7 @@ at_start : (asked : Asked) → Together asked [] no_cut []
 at_start asked =
     let nothing : [] ≡ own_before asked [] 0 = own_nothing asked [] in
     record {
-      stands = record { holds = λ number within. at_first asked number; begun = omega arith; same = nothing };
+      stands = record { holds = λ number within. at_first asked number; begun = omega arith; decided = omega arith; same = nothing };
       joined = subst (λ (l : List Judged). Joined (whole_units asked []) l []) nothing (record { jobs = refl; runs = refl; many = refl });
       early = subst (λ (l : List Judged). HaveRuns (λ run. run.from ≤ written_time (whole_units asked []) 0) (filter_map (written_of (whole_units asked [])) l)) nothing tt;
       none = λ is. (refl, refl);
