@@ -8,7 +8,7 @@ use Rattle.yds_trace.specs.Asked.{Named, Task, Asked}
 use Rattle.yds_trace.specs.Document.{Judged, all_judged}
 use Rattle.yds_trace.specs.Others.{Span}
 use Rattle.yds_trace.specs.Parts.{belongs, waiting_from, is_settled, place_among, is_much, no_cut, cut_at, part_fault}
-use Rattle.yds_trace_examples.proofs.Lines.{other, line, woken, comes, sleeps, preempted, gives_way, other_leaves, marker, task, asked, up_to, of_each, in_shares}
+use Rattle.yds_trace_examples.proofs.Lines.{other, line, woken, comes, sleeps, preempted, gives_way, other_leaves, marker, lost, task, asked, up_to, of_each, in_shares}
 
 -- # Which documents have a job
 
@@ -89,6 +89,19 @@ no_place_within_apart = refl
 -- For a wake-up then goes on with it.
 goes_on : settled (both_tasks 50) (woken 1000 ∷ comes 0 1002 ∷ sleeps 0 1010 ∷ other_woken 1020 ∷ woken 1049 ∷ marker 0 1200 ∷ []) ≡ false ∷ false ∷ []
 goes_on = refl
+
+-- # Its end isn't known
+
+-- Events were lost behind 1030. When its deadline has come, at 1100, nothing more will be known of it.
+settled_by_its_deadline : settled asked (woken 1000 ∷ comes 0 1020 ∷ marker 1 1030 ∷ lost 1 ∷ marker 0 1100 ∷ []) ≡ true ∷ []
+settled_by_its_deadline = refl
+
+-- Near misses: a nanosecond earlier; and a job that is open.
+before_its_deadline : settled asked (woken 1000 ∷ comes 0 1020 ∷ marker 1 1030 ∷ lost 1 ∷ marker 0 1099 ∷ []) ≡ false ∷ []
+before_its_deadline = refl
+
+open_at_its_deadline : settled asked (woken 1000 ∷ comes 0 1020 ∷ marker 1 1030 ∷ marker 0 1100 ∷ []) ≡ false ∷ []
+open_at_its_deadline = refl
 
 -- # An open job before it
 

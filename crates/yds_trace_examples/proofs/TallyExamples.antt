@@ -24,6 +24,13 @@ one_place = refl
 two_places : places asked (woken 10 ∷ comes 0 12 ∷ line 0 20 Loss ∷ sleeps 0 40 ∷ lost 0 ∷ []) ≡ 2
 two_places = refl
 
+-- Switches of a task are missing: it came, and another thread leaves there; and it leaves where another one came.
+a_task_came_there : places asked (woken 10 ∷ comes 0 12 ∷ other_leaves 0 20 ∷ []) ≡ 1
+a_task_came_there = refl
+
+a_task_leaves_there : places asked (other_comes 0 10 ∷ sleeps 0 20 ∷ []) ≡ 1
+a_task_leaves_there = refl
+
 -- near misses: the loss is behind `to`, or before `from`
 a_loss_behind_to : places (up_to 30) (woken 10 ∷ comes 0 12 ∷ sleeps 0 40 ∷ lost 0 ∷ woken 50 ∷ []) ≡ 0
 a_loss_behind_to = refl
@@ -47,7 +54,7 @@ lacking asked lines = missing_switches asked.from asked.to asked.tasks (reverse 
 one_missing : lacking asked (other_comes 0 10 ∷ line 0 20 (Switch third states.Sleeps idle) ∷ []) ≡ 1
 one_missing = refl
 
--- near misses: the listed task came, or leaves, and its job tells that a switch is missing
+-- near misses: the listed task came, or leaves, and that is a place where events were lost
 a_task_came : lacking asked (woken 10 ∷ comes 0 12 ∷ other_leaves 0 20 ∷ []) ≡ 0
 a_task_came = refl
 

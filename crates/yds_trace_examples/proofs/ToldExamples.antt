@@ -13,7 +13,7 @@ use Rattle.yds_trace_text.specs.Limit.{Beyond, NotKnown}
 use Rattle.yds_trace_text.specs.Text.{comment, unit_comment, period_comment}
 use Rattle.yds_trace_text.specs.PartText.{part_text}
 use Rattle.yds_trace_parts.specs.Told.{InForm, AtLine, OfDocument, Told, told_of}
-use Rattle.yds_trace_examples.proofs.Lines.{woken, is_awake, comes, sleeps, preempted, back, marker, lost, asked, of_each, in_shares, with_others}
+use Rattle.yds_trace_examples.proofs.Lines.{woken, is_awake, comes, sleeps, preempted, back, other_leaves, marker, lost, asked, up_to, of_each, in_shares, with_others}
 
 abbrev two_jobs : List Said
 two_jobs = woken 1000 ∷ comes 0 1020 ∷ sleeps 0 1040 ∷ woken 1200 ∷ comes 0 1210 ∷ sleeps 0 1230 ∷ []
@@ -227,6 +227,23 @@ comes_back = refl
 -- So it is where its wake-up is done that was started before it left to sleep.
 woken_back : part_fault asked (reverse (two_jobs ++ woken 1240 ∷ comes 0 1250 ∷ woken 1259 ∷ sleeps 0 1260 ∷ [])) (record cut { boundary = 1241 }) (is_awake 1310) ≡ Some causes.PartWritten
 woken_back = refl
+
+-- And where it leaves a processor to which it wasn't seen to come, also by that one's first switch, behind `to`.
+abbrev woken_asleep : List Said
+woken_asleep = two_jobs ++ woken 1240 ∷ comes 0 1250 ∷ woken 1259 ∷ sleeps 0 1260 ∷ []
+
+leaves_unseen : part_fault asked (reverse woken_asleep) (record cut { boundary = 1241 }) (sleeps 1 1310) ≡ Some causes.PartWritten
+leaves_unseen = refl
+
+leaves_behind_to : part_fault (up_to 1300) (reverse woken_asleep) (record cut { boundary = 1241 }) (sleeps 1 1310) ≡ Some causes.PartWritten
+leaves_behind_to = refl
+
+-- Near misses: that processor has switched before; and no wake-up was started before it left to sleep: a switch is missing, but none before 1310.
+switched_before : part_fault (up_to 1300) (reverse (woken_asleep ++ other_leaves 1 1270 ∷ [])) (record cut { boundary = 1241 }) (sleeps 1 1310) ≡ None
+switched_before = refl
+
+leaves_unwoken : part_fault asked (reverse (two_jobs ++ woken 1240 ∷ comes 0 1250 ∷ sleeps 0 1260 ∷ [])) (record cut { boundary = 1241 }) (sleeps 1 1310) ≡ None
+leaves_unwoken = refl
 
 -- Near misses: the job isn't written; or it was woken since.
 comes_back_later : part_fault asked (reverse two_jobs) cut (comes 0 1310) ≡ None
