@@ -1,5 +1,5 @@
 -- The trace's first line stays the first, and no job begins before it, unless it is after `to`.
-use Rattle.yds_model.proofs.Common.{◌≡◌, ◌∙◌, ℕ, ◌<◌, ◌≤◌, ◌⊎◌, inl, inr, List, [], ◌∷◌, min, Option, Some, None, unwrap_or, refl, sym, ap, subst, arith, All, recursion_from_All, le-leb, cases_lt}
+use Rattle.yds_model.proofs.Common.{◌≡◌, ◌∙◌, ℕ, ◌<◌, ◌≤◌, ◌⊎◌, inl, inr, List, [], ◌∷◌, min, Option, Some, None, unwrap_or, refl, sym, ap, subst, arith, recursion_from_All, le-leb, cases_lt}
 use Rattle.std.specs.List.{AllByRecursion}
 use Rattle.yds_kernel.specs.Event.{Said, Stamped, Lost, Nothing}
 use Rattle.yds_trace.specs.Asked.{Asked}
@@ -65,6 +65,7 @@ none_allow P (Stamped event ∷ past) none = absurd (no_stamp past event.time no
 none_allow P (Lost processor reach ∷ past) none = (tt, none_allow P past none)
 none_allow P (Nothing ∷ past) none = (tt, none_allow P past none)
 
+-- nor is there one among the lines that count
 none_counts : (to : Option ℕ) (past : List Said) → first_stamp past ≡ None → first_stamp (up_to to past) ≡ None
 none_counts None past none = none
 none_counts (Some to) past none = none_stamped to past none
@@ -78,6 +79,7 @@ each_from asked said past number P so each =
     all_weaker (HasBegin P) (IsFrom asked past (said ∷ past)) so (jobs_of asked past number)
     (recursion_from_All (HasBegin P) (jobs_of asked past number) (each_job (HasBegin P) (begin_kept P) asked past number each))
 
+-- Each job begins behind the first line, which one line more leaves as it is.
 pub jobs_from : (asked : Asked) (said : Said) (past : List Said) (number : ℕ) → GoesOn asked.to past → AllByRecursion (IsFrom asked past (said ∷ past)) (jobs_of asked past number)
 jobs_from asked said past number goes = by (first_stamp past) refl
   where

@@ -1,5 +1,5 @@
 -- What an event does to the jobs that are told: nothing, where these are settled. And what is known of each job's times stays so.
-use Rattle.yds_model.proofs.Common.{◌≡◌, ◌∙◌, ℕ, ◌+◌, ◌<◌, ◌≤◌, ◌⊎◌, inl, inr, ◌==◌, ◌&&◌, List, [], ◌∷◌, map, min, Bool, true, false, not, nat_lt, if◌then◌else◌, Option, Some, None, is_none, refl, sym, ap, subst, arith, ltb-true, le-ltb, le_refl, eqb-true, and_parts, length, cond_both, not-true, unwrap_or, ◌||◌, is_some, ltb-false, false≢true, true≢false}
+use Rattle.yds_model.proofs.Common.{◌≡◌, ◌∙◌, ℕ, ◌+◌, ◌<◌, ◌≤◌, ◌⊎◌, inl, inr, ◌==◌, ◌&&◌, List, [], ◌∷◌, map, min, Bool, true, false, not, nat_lt, if◌then◌else◌, Option, Some, None, is_none, refl, sym, ap, subst, arith, ltb-true, le-ltb, le_refl, and_parts, cond_both, not-true, unwrap_or, ◌||◌, is_some, ltb-false, false≢true, true≢false}
 use Rattle.std.specs.List.{AllByRecursion}
 use Rattle.yds_kernel.specs.declared.state.State.{State}
 use Rattle.yds_kernel.specs.declared.state.State.TheVariants as states
@@ -10,7 +10,7 @@ use Rattle.yds_trace.specs.declared.job.Standing.{Standing}
 use Rattle.yds_trace.specs.declared.job.Leaving.{Leaving}
 use Rattle.yds_trace.specs.declared.job.Woken.{Woken}
 use Rattle.yds_trace.specs.declared.job.Pace.{Pace}
-use Rattle.yds_trace.specs.Jobs.{Job, Known, new_job, began, due_behind, began_behind, reopened, woken_after, counted, woken_jobs, went_on, unended, back_jobs, come_jobs, running_jobs, found_jobs, changed_last, ended, exits, missing, ran, is_open_or_woken, is_awake, is_there, torn_jobs, torn, torn_if, comes, begun_at_most, begun_by, stretch_of, left_unseen, left_from, left_in, leaves, not_seen, left_started, may_run, woken_at, wakes_up, speeds, open_until, lost_end, lost_job, loses, left_if, came_if, after_switch}
+use Rattle.yds_trace.specs.Jobs.{Job, Known, new_job, began, due_behind, began_behind, reopened, woken_after, counted, woken_jobs, went_on, unended, back_jobs, come_jobs, running_jobs, found_jobs, changed_last, ended, exits, missing, ran, is_open_or_woken, is_awake, is_there, torn_jobs, torn, torn_if, comes, begun_at_most, begun_by, stretch_of, left_unseen, left_from, left_in, leaves, not_seen, may_run, wakes_up, speeds, open_until, lost_end, lost_job, loses, after_switch}
 use Rattle.yds_trace_laws.proofs.Runs.{all_weaker}
 use Rattle.yds_trace_whole.proofs.Told.{Told, told, new_told, changed_told, AreAlike, alike_told, Each}
 
@@ -170,6 +170,7 @@ abbrev pub IsLastAwaited : ℕ → Bool → List Job → Type 0
 IsLastAwaited at seen [] = ⊥
 IsLastAwaited at seen (job ∷ jobs) = IsBegunBy at seen job × IsAwaited seen job.end
 
+-- its thread came to its processor by then, where it has one
 abbrev pub HasCome : ℕ → Option Standing → Type 0
 HasCome at None = Unit {0}
 HasCome at (Some standing) = standing.came ≤ at
@@ -292,6 +293,7 @@ lost_left boundary since on [] last = tt
 lost_left boundary since on (job ∷ jobs) (inl free) = inl free
 lost_left boundary since on (job ∷ jobs) (inr done) = inr (lost_done since job.slept job.end, tt)
 
+-- what is told stays, where all its ends are known by then
 lost_told : (boundary since : ℕ) (jobs : List Job) → Each (λ job. IsKnownBy since job.end) boundary jobs → told boundary (map (lost_job since) jobs) ≡ told boundary jobs
 lost_told boundary since jobs known = alike_told boundary jobs (map (lost_job since) jobs) (lost_alike boundary since jobs known)
 
@@ -311,11 +313,13 @@ ripe_if : (until time since : ℕ) (b : Bool) (end : End) → IsRipeEnd until ti
 ripe_if until time since true end ripe = tt
 ripe_if until time since false end ripe = ripe
 
+-- an end that is lost, or stays
 lost_ripe_end : (until time since : ℕ) (slept : Option ℕ) (end : End) → IsRipeEnd until time end → IsRipeEnd until time (lost_end since slept end)
 lost_ripe_end until time since slept ends.Open ripe = tt
 lost_ripe_end until time since slept (ends.Ended end) ripe = ripe_if until time (open_until since slept) (nat_lt since end) (ends.Ended end) ripe
 lost_ripe_end until time since slept (ends.Lost last) ripe = tt
 
+-- the last job of those that are lost
 lost_ripe : (boundary apart time since : ℕ) (jobs : List Job) → IsRipe boundary apart time jobs → IsRipe boundary apart time (map (lost_job since) jobs)
 lost_ripe boundary apart time since [] ripe = tt
 lost_ripe boundary apart time since (job ∷ jobs) (inl free) = inl free
@@ -370,6 +374,7 @@ module _ (boundary now : ℕ) (all : List Told) where
   missing_going =
       changed_going missing (λ job late sound last_open. (late, sound, last_open))
 
+  -- a job that begins not before the boundary
   first_going : (time due_from : ℕ) (certain : Bool) (jobs : List Job) → (certain ≡ false → time ≤ due_from) → boundary ≤ time → time ≤ now → told boundary jobs ≡ all →
       AreSound now jobs → Going boundary now all (new_job time due_from certain ∷ jobs)
   first_going time due_from certain jobs due late by is sound =
@@ -419,6 +424,7 @@ module _ (boundary now : ℕ) (all : List Told) where
           let over : job.begin + pace.apart ≤ at = ltb-false at (job.begin + pace.apart) soon in
           first_going at (due_behind pace.period at job) true (job ∷ jobs) (λ unknown. absurd (true≢false unknown)) (omega (arith, free, over)) by is sound
 
+  -- a wake-up more of the last job
   counted_going : (again : Bool) (job : Job) (jobs : List Job) → Going boundary now all (job ∷ jobs) → Going boundary now all (counted again job ∷ jobs)
   counted_going true job jobs going = going
   counted_going false job jobs going =
@@ -635,6 +641,7 @@ module _ (boundary now : ℕ) (all : List Told) where
 
   -- # A wake-up that was started before it leaves
 
+  -- a job that began before a wake-up, where its thread was seen
   seen_begun : (at : ℕ) (seen : Bool) (job : Job) → IsBegunBy at seen job → IsBegunBy at true job
   seen_begun at seen job (inl early) = inl early
   seen_begun at seen job (inr known) = inr (known.0, refl)
@@ -644,21 +651,25 @@ module _ (boundary now : ℕ) (all : List Told) where
   HasBegun at [] = ⊥
   HasBegun at (job ∷ jobs) = IsBegunBy at true job
 
+  -- the last job before such a wake-up began so
   last_begun : (at : ℕ) (seen : Bool) (jobs : List Job) → IsLastAwaited at seen jobs → HasBegun at jobs
   last_begun at seen [] last = absurd last
   last_begun at seen (job ∷ jobs) last = seen_begun at seen job last.0
 
+  -- also where it is changed
   changed_begun : (change : Job → Job) → ((at : ℕ) (job : Job) → IsBegunBy at true job → IsBegunBy at true (change job)) → (at : ℕ) (jobs : List Job) → HasBegun at jobs →
       HasBegun at (changed_last change jobs)
   changed_begun change keeps at [] begun = absurd begun
   changed_begun change keeps at (job ∷ jobs) begun = keeps at job begun
 
+  -- also where its thread is found to run
   found_begun : (at time : ℕ) (seen : Bool) (jobs : List Job) → IsLastAwaited at seen jobs → HasBegun at (found_jobs time true jobs)
   found_begun at time seen [] last = absurd last
   found_begun at time seen (job ∷ jobs) last =
       by_end (HasBegun at) job.end (job ∷ jobs) (λ end. began time true (job ∷ jobs)) (λ since. began time true (job ∷ jobs))
       (λ is. seen_begun at seen job last.0) (λ end is. inr (refl, refl)) (λ since is. inr (refl, refl))
 
+  -- also where it began by a time at which its thread was there
   by_begun : (at time : ℕ) (seen : Bool) (jobs : List Job) → seen ≡ false → IsLastAwaited at seen jobs → HasBegun at (begun_by time jobs)
   by_begun at time seen [] unseen last = absurd last
   by_begun at time seen (job ∷ jobs) unseen last =
@@ -675,12 +686,14 @@ module _ (boundary now : ℕ) (all : List Told) where
       least true is before = let less : time < job.begin = ltb-true time job.begin is in omega (arith, less, before)
       least false is before = before
 
+  -- also where that wake-up goes on with it, or begins another
   woken_begun : (pace : Pace) (at : ℕ) (job : Job) (jobs : List Job) → IsBegunBy at true job → HasBegun at (woken_after pace at job jobs)
   woken_begun pace at job jobs begun =
       either (HasBegun at) (not (nat_lt at (job.begin + pace.apart))) (began_behind pace.period at job jobs)
       (if job.begin_known then reopened job ∷ jobs else began at false (job ∷ jobs)) (inl (omega arith))
       (either (HasBegun at) job.begin_known (reopened job ∷ jobs) (began at false (job ∷ jobs)) begun (inl (omega arith)))
 
+  -- also where its thread comes
   come_begun : (pace : Pace) (at time : ℕ) (woken : Woken) (jobs : List Job) → woken.started ≡ Some at → IsLastAwaited at woken.seen jobs → HasBegun at (come_jobs pace time woken jobs)
   come_begun pace at time woken [] is last = absurd last
   come_begun pace at time woken (job ∷ jobs) is last =
@@ -692,6 +705,7 @@ module _ (boundary now : ℕ) (all : List Told) where
       (λ unseen. absurd (let no : false ≡ true = sym unseen ∙ subst (IsAwaited woken.seen) is_ended last.1 in false≢true no)))
       (λ since is_lost. absurd (subst (IsAwaited woken.seen) is_lost last.1))
 
+  -- also where its thread leaves
   left_begun : (pace : Pace) (wakes torn : Bool) (leaving : Leaving) (known : Known) (at : ℕ) → (wakes ≡ false → known.woken.started ≡ None) → known.woken.started ≡ Some at →
       IsLastAwaited at known.woken.seen known.jobs → HasBegun at (left_from pace wakes torn leaving known)
   left_begun pace wakes torn leaving known at none is last = from known.on
@@ -717,6 +731,7 @@ module _ (boundary now : ℕ) (all : List Told) where
           (λ woken. come_begun pace at leaving.time known.woken known.jobs is last)
           (λ at_run. absurd (let no : None ≡ Some at = sym (none at_run) ∙ is in cc no)))))
 
+  -- such a job that ends then still waits for that wake-up
   ended_awaited : (at time : ℕ) (jobs : List Job) → HasBegun at jobs → IsLastAwaited at true (changed_last (ended time) jobs)
   ended_awaited at time [] begun = absurd begun
   ended_awaited at time (job ∷ jobs) begun = (begun, refl)

@@ -272,6 +272,7 @@ record IsNext (asked : Asked) (counting : List Said) (boundary now number : ℕ)
   half : (thread : Thread) (at : ℕ) → happening ≡ WakeUp thread false → not asked.begin_at_run ≡ true → is_of asked number thread ≡ true →
       (known_after asked number counting).woken.started ≡ Some at → IsBack boundary (known_after asked number counting).woken (known_after asked number counting).jobs
 
+-- a processor that hasn't switched has no last switch
 unswitched : (last : Option ℕ) → is_none last ≡ true → is_some last ≡ false
 unswitched None first = refl
 unswitched (Some time) first = cc first

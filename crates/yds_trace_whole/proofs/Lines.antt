@@ -308,6 +308,7 @@ lost_same (Some to) processor reach past goes within = lost_since_same to proces
 
 -- # Since when a processor's lines are whole
 
+-- It is no later than all lines.
 pub lines_by : (time processor here : ℕ) (past : List Said) → here ≤ time → AreBy time past → lines_since processor here past ≤ time
 lines_by time processor here [] within by = within
 lines_by time processor here (Stamped event ∷ past) within by =

@@ -18,7 +18,7 @@ use Rattle.yds_trace_document.proofs.Sorting.{filter_in_order}
 use Rattle.yds_trace_laws.proofs.Runs.{all_weaker, reverse-all_back}
 use Rattle.yds_trace_laws.proofs.Shares.{share_kept}
 use Rattle.yds_trace_laws.proofs.Sharing.{GoesOn}
-use Rattle.yds_trace_whole.proofs.Told.{Told, with_number, told, changed_told, OfTold, Each, each_told, judge, judged_told}
+use Rattle.yds_trace_whole.proofs.Told.{Told, with_number, told, changed_told, OfTold, each_told, judge, judged_told}
 use Rattle.yds_trace_whole.proofs.Going.{IsSoundEnd, IsDueOn, IsSound, IsLeft, Keeps, standing_free}
 use Rattle.yds_trace_whole.proofs.First.{IsFrom, jobs_from}
 use Rattle.yds_trace_whole.proofs.Holding.{IsFirmEnd, ripe_from, IsFirm, counted, told_of, Holds}
@@ -135,6 +135,7 @@ earliest_by asked first next job after due_on from = by (job.begin_known || aske
     by true is = inl (omega arith)
     by false is = unseen (or_parts job.begin_known asked.begin_at_run is).0 from
 
+-- So it is as sure or unsure as it was.
 unsure_same : (asked : Asked) (task : Task) (first last next decided line ripe : ℕ) (job : Job) → last ≤ next → IsSoundEnd last job.end →
     IsFirmEnd last decided line ripe (due task job) job.end → IsDueOn job → (first ≤ job.begin) ⊎ (next < first) →
     is_unsure asked task first next job ≡ is_unsure asked task first last job
@@ -181,6 +182,7 @@ job_same asked past next number decided place before job on is =
     (ap (λ (first : ℕ). is_unsure asked task first later job) is.3.0
     ∙ unsure_same asked task (first_time 0 past) last later decided (last_time past) (ripe_from asked number job) job on is.0 is.1 is.2 is.3.1)
 
+-- so of what is told, as the processor's documents have it
 judge_same : (asked : Asked) (past next : List Said) (number decided : ℕ) (one : Told) → last_asked asked past ≤ last_asked asked next →
     OfTold (IsStill asked past next decided number) one → judge asked next number one ≡ judge asked past number one
 judge_same asked past next number decided one on is =
@@ -192,6 +194,7 @@ map_each : {A B : Type 0} (P : A → Type 0) (f g : A → B) (xs : List A) → (
 map_each P f g [] each all = refl
 map_each {A} {B} P f g (x ∷ xs) each all = ap₂ (λ (y : B) (ys : List B). y ∷ ys) (each x all.0) (map_each P f g xs each all.1)
 
+-- two properties of each
 both : {A : Type 0} (P Q : A → Type 0) (xs : List A) → AllByRecursion P xs → AllByRecursion Q xs → AllByRecursion (λ x. P x × Q x) xs
 both P Q [] first second = tt
 both P Q (x ∷ xs) first second = ((first.0, second.0), both P Q xs first.1 second.1)

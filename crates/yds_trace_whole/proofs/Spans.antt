@@ -1,5 +1,5 @@
 -- Who else had the processor: what a part tells of it stays so behind all further lines.
-use Rattle.yds_model.proofs.Common.{◌≡◌, ◌∙◌, ℕ, ◌+◌, ◌<◌, ◌≤◌, ◌⊎◌, inl, inr, List, [], ◌∷◌, ◌++◌, filter, filter_map, reverse, max, min, cond, Bool, true, false, nat_lt, nat_le, if◌then◌else◌, Option, Some, None, refl, sym, ap, subst, arith, le-ltb, lt-ltb, le-leb, ltb-true, ltb-false, leb-false, append-nil, reverse-append, filter_map-append, All-from_recursion, AllByRecursion, cases_lt, cond_both}
+use Rattle.yds_model.proofs.Common.{◌≡◌, ◌∙◌, ℕ, ◌<◌, ◌≤◌, ◌⊎◌, inl, inr, List, [], ◌∷◌, ◌++◌, filter, filter_map, reverse, max, min, cond, Bool, true, false, nat_lt, nat_le, if◌then◌else◌, Option, Some, None, refl, sym, ap, subst, arith, le-ltb, lt-ltb, le-leb, ltb-true, ltb-false, leb-false, append-nil, reverse-append, filter_map-append, All-from_recursion, AllByRecursion, cases_lt, cond_both}
 use Rattle.std.specs.List.{cons_option}
 use Rattle.yds_kernel.specs.declared.loss.Since.TheVariants as since
 use Rattle.yds_kernel.specs.Event.{Thread, Event, Said, Stamped, Lost, Nothing}

@@ -1,5 +1,5 @@
 -- What the small traces of the examples are made of. A unit of time is 10 nanoseconds.
-use Rattle.yds_model.proofs.Common.{ℕ, List, codes, true, false, Some, None}
+use Rattle.yds_model.proofs.Common.{ℕ, List, codes, true, false, None}
 use Rattle.yds_kernel.specs.Event.{Thread, Happening, Said, Stamped}
 use Rattle.yds_trace.specs.Asked.{Named, Task, Same, Asked}
 
