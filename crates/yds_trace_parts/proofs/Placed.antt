@@ -53,7 +53,6 @@ both_come time (Some a) (Some b) = le_max a b time
 end_come : (time : ℕ) (end : End) → has_come time (end_of end) ≡ ended_by time end
 end_come time ends.Open = refl
 end_come time (ends.Ended end) = refl
-end_come time (ends.Unseen since goes_on) = refl
 end_come time (ends.Lost since) = refl
 
 come_by : (settled stand : Bool) (time : ℕ) (end : End) →
