@@ -289,7 +289,9 @@ fn a_trace_without_a_job_has_no_text(rt: HostRuntime) -> Result<(), Fail> {
     let ended = ended(alloc, Vec::new(alloc))?;
     assert!(rt; is_plain(&ended));
     if let Err(fault) = document_text(alloc, &ended, false) {
-        assert!(rt; is_limit(&fault, DocumentFault::NoJob(None)) || matches!(fault, NoText::Memory));
+        assert!(rt;
+            is_limit(&fault, DocumentFault::NoJob(None)) || matches!(fault, NoText::Memory)
+        );
     } else {
         assert!(rt; false, "a document without a job is feasible");
     }
