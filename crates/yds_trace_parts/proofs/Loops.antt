@@ -10,7 +10,7 @@ use Rattle.yds_trace.specs.Asked.{Asked, on, task_of}
 use Rattle.yds_trace.specs.Kept.{IsAtBehind}
 use Rattle.yds_trace.specs.Faults.{missing_at}
 use Rattle.yds_trace.specs.Jobs.{Known, known_after}
-use Rattle.yds_trace.specs.Parts.{last_begin, no_cut, later, was_there_before, has_ended, sleeps_before, woken_before, came_before, is_known_so, wakes_at, came_back, reaches_back_so, changes_parts, is_due}
+use Rattle.yds_trace.specs.Parts.{last_begin, no_cut, later, was_there_before, has_ended, sleeps_before, woken_before, came_before, is_known_so, wakes_at, leaves_at, came_back, reaches_back_so, changes_parts, is_due}
 use Rattle.yds_trace.specs.Past.{is_loss, lost_since, lines_since, has_switched, up_to}
 use Rattle.yds_trace.specs.Shown.{IsShown}
 use Rattle.yds_trace.proofs.Later.{later_changes}
@@ -264,9 +264,10 @@ never_so asked past test none (Some number) = none (known_after asked number (up
 
 came_back_never : (asked : Asked) (past : List Said) (event : Event) (happening : Happening) → came_back asked past no_cut event happening ≡ false
 came_back_never asked past event (Switch previous state next) =
-    and_false (wakes_at asked event) (is_known_so asked past previous (came_before 0) || is_known_so asked past next (sleeps_before 0))
-    (ap₂ (λ (a b : Bool). a || b) (never_so asked past (came_before 0) came_never (task_of asked.tasks previous))
-    (never_so asked past (sleeps_before 0) sleeps_never (task_of asked.tasks next)))
+    ap₂ (λ (a b : Bool). a || b)
+    (and_false (leaves_at asked past event) (is_known_so asked past previous (came_before 0))
+    (never_so asked past (came_before 0) came_never (task_of asked.tasks previous)))
+    (and_false (wakes_at asked event) (is_known_so asked past next (sleeps_before 0)) (never_so asked past (sleeps_before 0) sleeps_never (task_of asked.tasks next)))
 came_back_never asked past event (WakeUp thread starts) =
     and_false (wakes_at asked event) (not starts && is_known_so asked past thread (woken_before 0))
     (and_false (not starts) (is_known_so asked past thread (woken_before 0))

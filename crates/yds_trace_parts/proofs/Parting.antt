@@ -1,5 +1,5 @@
 -- What the code finds of a part is what the definitions say of it.
-use Rattle.base.proofs.Common.{◌≡◌, ◌<◌, ◌≤◌, ◌+◌, ℕ, List, length, Bool, true, false, nat_lt, nat_le, Option, Some, None, option_map, Ok, Err, if◌then◌else◌, sym, ap, subst, ◌∙◌, arith, nat_tests, leb-true, le-leb}
+use Rattle.base.proofs.Common.{◌≡◌, ◌<◌, ◌≤◌, ◌+◌, ℕ, List, [], ◌∷◌, length, Bool, true, false, nat_lt, nat_le, Option, Some, None, option_map, Ok, Err, if◌then◌else◌, refl, sym, ap, subst, ◌∙◌, arith, nat_tests, leb-true, le-leb}
 use Rattle.std.specs.Prelude.{Vec}
 use Rattle.std.specs.declared.alloc.Global.{Global}
 use Rattle.base.specs.declared.limits.TheConstants.{MAX_INPUT}
@@ -7,6 +7,7 @@ use Rattle.yds_kernel.specs.Event.{Said}
 use Rattle.yds_kernel.specs.Parts.{or_else, capped}
 use Rattle.yds_trace.specs.declared.cut.Cut.{Cut}
 use Rattle.yds_trace.specs.Asked.{Asked}
+use Rattle.yds_trace.specs.Document.{Judged}
 use Rattle.yds_trace_document.specs.Part.{part_of}
 use Rattle.yds_trace_text.specs.Limit.{Limit, limit_of}
 use Rattle.yds_trace_document.specs.declared.fault.DocumentFault.{DocumentFault}
@@ -14,7 +15,7 @@ use Rattle.yds_trace_text.specs.declared.fault.NoText.{NoText}
 use Rattle.yds_trace_text.specs.declared.fault.NoText.TheVariants as texts
 use Rattle.yds_trace_text.specs.PartText.{part_text}
 use Rattle.yds_trace_text.specs.Writing.{WritesPart}
-use Rattle.yds_trace_parts.specs.Told.{Halt, OfText, next_number, part_processor, of_document, of_text, part_halt, piece_unless, part_piece}
+use Rattle.yds_trace_parts.specs.Told.{Halt, OfText, next_number, part_processor, of_document, of_text, part_halt, piece_unless, piece_with, part_piece}
 use Rattle.yds_trace_parts.specs.declared.halt.Halt.{Halt as HaltKept}
 use Rattle.yds_trace_parts.specs.declared.halt.Halt.TheVariants as kept
 use Rattle.yds_trace_parts.specs.Telling.{halt_of_text, IsHaltFor, IsText, text_alone}
@@ -68,6 +69,17 @@ pub text_alone_is : (asked : Asked) (strict : Bool) (past : List Said) (cut : Cu
     part_piece asked strict past cut until ≡ text_alone text
 text_alone_is asked strict past cut until text is =
     ap (λ (halt : Option Halt). piece_unless halt (part_text asked past cut until)) is.fits ∙ ap text_alone (sym is.says)
+
+unless_halts : (halt : Option Halt) (text : List ℕ) → (piece_unless halt text).halt ≡ halt
+unless_halts None text = refl
+unless_halts (Some halt) text = refl
+
+-- Where a part has a job, nothing is written for the reason that its text isn't.
+pub with_job_halts : (asked : Asked) (strict : Bool) (past : List Said) (cut : Cut) (time : ℕ) (jobs : List Judged) → 1 ≤ length jobs →
+    (piece_with asked strict past cut time jobs).halt ≡ part_halt asked strict past cut (Some time)
+with_job_halts asked strict past cut time [] some = absurd (omega (arith, some))
+with_job_halts asked strict past cut time (judged ∷ jobs) some =
+    unless_halts (part_halt asked strict past cut (Some time)) (part_text asked past cut (Some time))
 
 -- A count that was capped before is capped once.
 pub capped_twice : (a b : ℕ) → capped (a + capped b) ≡ capped (a + b)

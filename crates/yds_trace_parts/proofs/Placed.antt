@@ -1,5 +1,5 @@
 -- One walk over the waiting jobs finds the place of a part's end that the definitions say.
-use Rattle.base.proofs.Common.{◌≡◌, ℕ, zero, suc, ◌+◌, ◌<◌, ◌≤◌, ◌&&◌, ◌||◌, Bool, true, false, not, cond, List, [], ◌∷◌, ◌++◌, map, max, length, get_or, ◌∙◌, refl, sym, ap, ap₂, subst, arith, nat_le, nat_lt, nat_tests, le-leb, le-ltb, lt-leb, lt-ltb, le_refl, false≢true, ltb-true, ltb-false, if◌then◌else◌, Option, Some, None, slice_index_or, list_all, list_any, list_all-append, map-append, append-nil, append_assoc}
+use Rattle.base.proofs.Common.{◌≡◌, ℕ, ◌+◌, ◌<◌, ◌≤◌, ◌&&◌, ◌||◌, Bool, true, false, not, cond, List, [], ◌∷◌, ◌++◌, map, max, ◌∙◌, refl, sym, ap, ap₂, subst, arith, nat_le, nat_lt, nat_tests, le-leb, le-ltb, lt-leb, lt-ltb, le_refl, false≢true, ltb-true, ltb-false, if◌then◌else◌, Option, Some, None, list_all, list_any, list_all-append, map-append, append-nil, append_assoc}
 use Rattle.std.proofs.lemmas.List.Folds.{list_any-append}
 use Rattle.yds_kernel.specs.Event.{Said}
 use Rattle.yds_kernel.specs.Parts.{or_else}
@@ -53,7 +53,6 @@ both_come time (Some a) (Some b) = le_max a b time
 end_come : (time : ℕ) (end : End) → has_come time (end_of end) ≡ ended_by time end
 end_come time ends.Open = refl
 end_come time (ends.Ended end) = refl
-end_come time (ends.Unseen since goes_on) = refl
 end_come time (ends.Lost since) = refl
 
 come_by : (settled stand : Bool) (time : ℕ) (end : End) →

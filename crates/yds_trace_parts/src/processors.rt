@@ -6,6 +6,7 @@ ghost use Rattle.yds_trace.specs.declared.cut.Cut as written;
 ghost use Rattle.yds_trace.specs.Asked as asking;
 ghost use Rattle.yds_trace.specs.Kept.{IsAtBehind};
 ghost use Rattle.yds_trace.specs.Parts as parts;
+ghost use Rattle.yds_trace.specs.Past.{next_processor};
 ghost use Rattle.yds_trace.specs.Shown.{IsShown};
 ghost use Rattle.yds_trace.specs.Views.{asked_read};
 ghost use Rattle.yds_trace_parts.specs.Plain.{IsPlainLook};
@@ -56,7 +57,7 @@ pub(crate) fn first_processor(asked: &Asked) -> u64
 
 /// The processor of which a line tells.
 pub(crate) fn processor_of(said: &Said<'_>) -> Option<u64>
-    ensures { spec.next_of result ≡ parts.next_processor (said_read said.now) }
+    ensures { spec.next_of result ≡ next_processor (said_read said.now) }
 {
     match said {
         Said::Event(event) => Some(event.processor),

@@ -1,4 +1,4 @@
-use Rattle.base.proofs.Common.{◌≡◌, IfOk, IfErr, sym, subst, err_from_is_err_and}
+use Rattle.base.proofs.Common.{IfOk, IfErr, subst, err_from_is_err_and}
 use Rattle.yds_trace.specs.Asked.{Asked, on}
 use Rattle.yds_trace_parts.specs.Telling.{IsPiece, HaltsBehind}
 use Rattle.yds_trace_parts.proofs.Parting.{memory_halts}

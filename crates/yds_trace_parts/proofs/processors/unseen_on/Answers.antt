@@ -1,4 +1,4 @@
-use Rattle.base.proofs.Common.{◌≡◌, IfOk, sym, subst, err_from_is_err_and}
+use Rattle.base.proofs.Common.{◌≡◌, IfOk, subst, err_from_is_err_and}
 use Rattle.yds_trace.specs.Asked.{Asked, on}
 use Rattle.yds_trace.specs.Parts.{place_of}
 use Rattle.yds_trace_parts.specs.Telling.{without_job_at}
